@@ -1,0 +1,5 @@
+pub mod Limits
+pub mod Refusals
+pub mod Intervals
+pub mod Finding
+pub mod Worked
