@@ -1,1 +1,5 @@
 pub mod Firsts
+pub mod Alls
+pub mod Risings
+pub mod Agreement
+pub mod Lawfuls

@@ -10,7 +10,7 @@ use Rattle.std.specs.declared.result.Result.the-variants.{Ok, Err}
 use Rattle.snapshot.specs.declared.fault.Refusal.{Refusal}
 use Rattle.snapshot.specs.declared.fault.Refusal.the-variants.{IntervalsApart}
 use Rattle.snapshot.specs.declared.interval.Interval.{Interval}
-use Rattle.snapshot.specs.declared.reading.Reading.{Reading}
+use Rattle.snapshot.specs.declared.account.Reading.{Reading}
 
 abbrev pub interval : ℕ → ℕ → Interval
 interval l h = record { low = l; high = h }

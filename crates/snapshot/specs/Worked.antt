@@ -10,7 +10,7 @@ use Rattle.std.specs.declared.option.Option.the-variants.{Some, None}
 use Rattle.std.specs.shelf.Lists.{All}
 use Rattle.snapshot.specs.Intervals.{interval, meetsReading, narrowed, joinedOrRefused}
 use Rattle.snapshot.specs.declared.interval.Interval.{Interval}
-use Rattle.snapshot.specs.declared.reading.Reading.{Reading}
+use Rattle.snapshot.specs.declared.account.Reading.{Reading}
 
 -- the interval after a reading with this timestamp and promise, or nothing where the reading does not meet it
 abbrev pub afterReading : Interval → ℕ → ℕ → Option Interval

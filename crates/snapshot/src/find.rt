@@ -3,8 +3,8 @@ ghost use mathlib.Core.Bool.{Bool};
 ghost use mathlib.Core.Path.{_≡_};
 ghost use lib.Dec.{eqb};
 ghost use Rattle.snapshot.specs.Finding.{firstWith, FirstMeans};
-use crate::reading::ChainReading;
-use crate::reading::Write;
+use crate::account::ChainReading;
+use crate::account::Write;
 
 // A record that can be asked whether it has a key.
 pub trait Keyed<K> {

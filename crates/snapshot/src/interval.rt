@@ -1,9 +1,9 @@
 // An interval of times, both ends included: the stretch in which all readings of a chain's leg are known to agree.
 ghost use mathlib.Core.Path.{_≡_};
 ghost use Rattle.snapshot.specs.Intervals.{meetsReading, narrowed, joinedOrRefused, MeetsMeans, NarrowedMeans, JoinedMeans};
+use crate::account::Reading;
 use crate::fault::Refusal;
 use crate::limits::OPEN_END;
-use crate::reading::Reading;
 
 #[derive(Clone, Copy, PartialEq, Eq, Debug)]
 pub struct Interval {

@@ -1,0 +1,9 @@
+pub mod Placing
+pub mod Packing
+pub mod Decoding
+pub mod Parts
+pub mod Numbers
+pub mod Records
+pub mod RoundTrip
+pub mod Writing
+pub mod Reading

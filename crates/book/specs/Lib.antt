@@ -1,0 +1,4 @@
+pub mod Bytes
+pub mod Format
+pub mod Calls
+pub mod Theorems
