@@ -7,3 +7,5 @@ pub mod Records
 pub mod RoundTrip
 pub mod Writing
 pub mod Reading
+pub mod Heads
+pub mod Listings

@@ -27,9 +27,8 @@ module _ {X : Type 0} (pack : X → List ℕ) where
   length-joined-front size sized xs i h =
       length-joined size sized (take i xs) ∙ ap (λ n. size * n) (length-take-le i xs h)
 
-  pub joined-next : (xs : List X) (i : ℕ) (x : X) → i < length xs → x ≡ getD xs i x → joined pack (take (i + 1) xs) ≡ joined pack (take i xs) ++ pack x
-  joined-next xs i x lt read =
-      ap (joined pack) (take-more xs i x lt ∙ ap (λ y. take i xs ++ (y ∷ [])) (sym read)) ∙ sym (joined-more pack [] (take i xs) x)
+  pub joined-next : (xs : List X) (i : ℕ) (d : X) → i < length xs → joined pack (take (i + 1) xs) ≡ joined pack (take i xs) ++ pack (getD xs i d)
+  joined-next xs i d lt = ap (joined pack) (take-more xs i d lt) ∙ sym (joined-more pack [] (take i xs) (getD xs i d))
 
 module _ {X : Type 0} (one : List ℕ → X) (size : ℕ) where
   pub records-next : (i : ℕ) (bs : List ℕ) → recordsFrom one size (suc i) bs ≡ recordsFrom one size i bs ++ (one (drop (size * i) bs) ∷ [])

@@ -1,7 +1,10 @@
 // What is read, written and accounted for: a reading of one version, a chain's reading, a write, and the head of an account.
+ghost use Rattle.std.specs.declared.option.Option.the-variants.{Some};
+ghost use Rattle.snapshot.specs.Shown.{headText};
 use crate::interval::Interval;
 use crate::interval::IntervalDebug;
 use crate::interval::IntervalPartialEq;
+use std::fmt;
 
 // A version's value, its timestamp, and its promise: the last time at which that version is known to be current.
 #[derive(Clone, Copy, PartialEq, Eq, Debug)]
@@ -34,6 +37,20 @@ pub struct AccountHead {
     pub timestamp: u64,
     pub readings: usize,
     pub writes: usize,
+}
+
+// Low, high, timestamp and the two counts, with single spaces.
+pub impl fmt::Display for AccountHead as AccountHeadDisplay {
+    ghost shown = { λ h. Some (headText h) };
+
+    fn fmt<W: fmt::Write>(&self, f: &mut fmt::Formatter<W>) -> fmt::Result {
+        let low = self.interval.low;
+        let high = self.interval.high;
+        let timestamp = self.timestamp;
+        let readings = self.readings;
+        let writes = self.writes;
+        write!(f, "{low} {high} {timestamp} {readings} {writes}")
+    }
 }
 
 // What stands in a list of readings or writes where none is known.

@@ -1,4 +1,5 @@
 -- Each turn places one record where the records before it end.
+use mathlib.Core.List.{_++_}
 use mathlib.Core.Path.{_≡_, sym, ap, _∙_}
 use Prim.Native.Nat.{_+_, _≤_}
 use native.Mathlib.Nat.{mul-zero}
@@ -39,7 +40,8 @@ loop-record-again g c =
     let fits : at + length before ≤ length old = omega (arith, room, l) in (
       omega (arith, next-place size at i, c .size-place .ensures, c .loop-record .inv .0),
       placed-then at before old fits (c .loop-record .place) (pack x) there (c .loop-record .inv .1) (c .put .ensures)
-          ∙ ap (λ bs. placed at bs old) (sym (joined-next pack xs i x (c .loop-record-test .taken) (c .record-item .is))),
+          ∙ ap (λ bs. placed at (before ++ bs) old) (ap pack (c .record-item .is))
+          ∙ ap (λ bs. placed at bs old) (sym (joined-next pack xs i x (c .loop-record-test .taken))),
     )
 
 pub returns : need.returns
