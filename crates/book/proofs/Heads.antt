@@ -14,7 +14,7 @@ use Rattle.snapshot.specs.Accounts.{Account}
 use Rattle.snapshot.specs.declared.fault.BookFault.{BookFault}
 use Rattle.snapshot.specs.declared.fault.Refusal.{Refusal}
 use Rattle.book.specs.Books.{Stands, StandsOrRefused}
-use Rattle.book.specs.Calls.{faulted, frontFor, located, reading}
+use Rattle.book.specs.Calls.{faulted, frontFor, located, readAt}
 use Rattle.book.specs.Format.{bytesOf, frontAccount}
 use Rattle.book.specs.declared.reader.AccountAt.{AccountAt}
 use Rattle.book.proofs.RoundTrip.{accepted-is-written, bounds}
@@ -37,5 +37,5 @@ module _ (book : List ℕ) (small : (i : ℕ) → getD book i 0 < 256) (start n 
       } in
       subst (λ r. StandsOrRefused book start (faulted start (located start r))) (sym room) stands
 
-  pub stands-or-refused : (r : Result AccountAt BookFault) → r ≡ faulted start (located start (reading book start n m)) → StandsOrRefused book start r
+  pub stands-or-refused : (r : Result AccountAt BookFault) → r ≡ faulted start (located start (readAt book start n m)) → StandsOrRefused book start r
   stands-or-refused r e = subst (StandsOrRefused book start) (sym e) (found (frontAccount (drop start book)) refl)

@@ -17,9 +17,9 @@ use Rattle.snapshot.specs.declared.account.AccountHead.{AccountHead}
 use Rattle.snapshot.specs.declared.account.ChainReading.{ChainReading}
 use Rattle.snapshot.specs.declared.account.Write.{Write}
 use Rattle.snapshot.specs.declared.fault.Refusal.{Refusal}
-use Rattle.snapshot.specs.Intervals.{interval}
+use Rattle.snapshot.specs.Intervals.{fromTo}
 use Rattle.book.specs.Bytes.{numberAt, overwritten, recordsFrom}
-use Rattle.book.specs.Calls.{faulted, frontFor, headed, located, reading}
+use Rattle.book.specs.Calls.{faulted, frontFor, headed, located, readAt}
 use Rattle.book.specs.Format.{accountFrom, bytesOf, countsIn, framed, frontAccount, lawfulOnly, readingFrom, readingsIn, sizeOf, whole, writeFrom, writesIn}
 use Rattle.book.specs.Theorems.{Accepted, IsWritten}
 use Rattle.book.specs.declared.reader.Counts.{Counts}
@@ -36,7 +36,7 @@ unfolding frontAccount
 frame-passes bs k h = (grind (arith, tells), grind (arith, tells))
 
 -- the account that is made of the parts
-pub account-from : (bs : List ℕ) {l h t : ℕ} {rs : List ChainReading} {ws : List Write} → l ≡ numberAt 4 8 bs → h ≡ numberAt 12 8 bs → t ≡ numberAt 20 8 bs → rs ≡ recordsFrom readingFrom 22 (readingsIn bs) (drop 28 bs) → ws ≡ recordsFrom writeFrom 5 (writesIn bs) (drop (28 + 22 * readingsIn bs) bs) → whole (interval l h) t rs ws ≡ accountFrom bs
+pub account-from : (bs : List ℕ) {l h t : ℕ} {rs : List ChainReading} {ws : List Write} → l ≡ numberAt 4 8 bs → h ≡ numberAt 12 8 bs → t ≡ numberAt 20 8 bs → rs ≡ recordsFrom readingFrom 22 (readingsIn bs) (drop 28 bs) → ws ≡ recordsFrom writeFrom 5 (writesIn bs) (drop (28 + 22 * readingsIn bs) bs) → whole (fromTo l h) t rs ws ≡ accountFrom bs
 account-from bs low high time readings writes = λ i. record { low = low i; high = high i; timestamp = time i; readings = readings i; writes = writes i }
 
 -- The answer.
@@ -54,13 +54,13 @@ front-ok n m (Err x) a e = let z : _≡_ {A = ℕ} 0 1 = cc in absurd (omega ari
 -- the account that the answered head stands for
 pub record Read (book : List ℕ) (start n m : ℕ) (h : AccountHead) : Type 0 where
   pub account : Account
-  pub was : reading book start n m ≡ Ok account
+  pub was : readAt book start n m ≡ Ok account
   pub head : h ≡ headOf account
   pub written : IsWritten (drop start book) account
 
 pub read-ok : (book : List ℕ) (start n m : ℕ) (h : AccountHead) {bs : List ℕ} → ((i : ℕ) → getD book i 0 < 256) → bs ≡ drop start book → Ok h ≡ headed (frontFor n m (frontAccount bs)) → Read book start n m h
 read-ok book start n m h small there e =
-    let found = headed-ok (reading book start n m) h (e ∙ ap (λ bs. headed (frontFor n m (frontAccount bs))) there) in
+    let found = headed-ok (readAt book start n m) h (e ∙ ap (λ bs. headed (frontFor n m (frontAccount bs))) there) in
     let front = front-ok n m (frontAccount (drop start book)) (found .0) (found .1) in
     let bytes = all-from-getD (λ b. b < 256) book 0 (λ i _. small i) in
     record {
@@ -107,7 +107,7 @@ module _ {book : List ℕ} {start n m : ℕ} {h : AccountHead} (r : Read book st
         takes = rw same at after;
       }
 
-  pub read-answer : (end : ℕ) → end ≡ start + sizeOf (h .readings) (h .writes) → Ok (record { head = h; end = end }) ≡ faulted start (located start (reading book start n m))
+  pub read-answer : (end : ℕ) → end ≡ start + sizeOf (h .readings) (h .writes) → Ok (record { head = h; end = end }) ≡ faulted start (located start (readAt book start n m))
   read-answer end e =
       let after : end ≡ start + length (bytesOf (r .account)) = e ∙ ap (λ k. start + k) read-size in
       (λ i. Ok (record { head = r .head i; end = after i })) ∙ sym (ap (λ x. faulted start (located start x)) (r .was))

@@ -21,7 +21,7 @@ use Rattle.snapshot.specs.declared.account.Write.{Write}
 use Rattle.snapshot.specs.declared.fault.Refusal.{Refusal}
 use Rattle.book.specs.Bytes.{bigEndian, numberAt, exclusiveOr, recordsFrom}
 use Rattle.book.specs.Format.{readingBytes, writeBytes, headBytes, bodyBytes, bytesOf, sizeOf, sizeIn, readingsIn, writesIn, readingFrom, writeFrom, accountFrom, frontAccount}
-use Rattle.book.specs.Theorems.{Fits, WrittenReadsBack, IsWritten, AcceptedIsWritten, TakesItsSize}
+use Rattle.book.specs.Theorems.{ValuesFit, WrittenReadsBack, IsWritten, AcceptedIsWritten, TakesItsSize}
 use Rattle.book.proofs.Parts.{small-part, byte-then, part-then, front-then}
 use Rattle.book.proofs.Numbers.{number-bytes, bytes-at}
 use Rattle.book.proofs.Records.{Held, length-records, length-readings, length-writes, readings-back, writes-back, readings-written, writes-written}
@@ -96,7 +96,7 @@ bounds a law =
       sound = grind (arith, tells);
     }
 
-account-back : (a : Account) (tail : List ℕ) → Fits a → Bounds a → accountFrom (bodyBytes a ++ tail) ≡ a
+account-back : (a : Account) (tail : List ℕ) → ValuesFit a → Bounds a → accountFrom (bodyBytes a ++ tail) ≡ a
 account-back a tail fits b =
     let n = 22 * length (a .readings) in
     let rs = joined readingBytes (a .readings) in
@@ -112,7 +112,7 @@ account-back a tail fits b =
       writes = (ap (recordsFrom writeFrom 5 (length (a .writes))) last ∙ writes-back (a .writes) tail (fits .writes)) i;
     }
 
-account-front : (a : Account) (rest : List ℕ) → Fits a → lawful a ≡ true → frontAccount (bodyBytes a ++ (exclusiveOr (bodyBytes a) ∷ rest)) ≡ Ok a
+account-front : (a : Account) (rest : List ℕ) → ValuesFit a → lawful a ≡ true → frontAccount (bodyBytes a ++ (exclusiveOr (bodyBytes a) ∷ rest)) ≡ Ok a
 account-front a rest fits law =
     let b = bounds a law in
     let body = bodyBytes a in

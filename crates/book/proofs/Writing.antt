@@ -15,7 +15,7 @@ use Rattle.snapshot.specs.declared.fault.Refusal.the-variants.{TooShort}
 use Rattle.book.specs.Bytes.{exclusiveOr, overwritten, placed}
 use Rattle.book.specs.Calls.{writing, bufferAfter, frontFor}
 use Rattle.book.specs.Format.{readingBytes, writeBytes, headBytes, bodyBytes, bytesOf, frontAccount}
-use Rattle.book.specs.Theorems.{Fits, ReadsBackAnywhere}
+use Rattle.book.specs.Theorems.{ValuesFit, ReadsBackAnywhere}
 use Rattle.book.proofs.Placing.{length-placed, placed-one, placed-then}
 use Rattle.book.proofs.Records.{length-readings}
 use Rattle.book.proofs.RoundTrip.{length-body, takes-its-size, written-reads-back}
@@ -33,7 +33,7 @@ module _ (a : Account) (law : lawful a ≡ true) where
   pub buffer-whole : (old : List ℕ) → length (bytesOf a) ≤ length old → bufferAfter a old ≡ overwritten (bytesOf a) old
   buffer-whole old long = rw (law, le-leb (length (bytesOf a)) (length old) long)
 
-  pub reads-back-anywhere : Fits a → ReadsBackAnywhere a
+  pub reads-back-anywhere : ValuesFit a → ReadsBackAnywhere a
   reads-back-anywhere fits before rest n m rs ws =
       ap (λ bs. frontFor n m (frontAccount bs)) (drop-at before (bytesOf a ++ rest) (length before) refl)
       ∙ ap (frontFor n m) (written-reads-back a fits law rest)

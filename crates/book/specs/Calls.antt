@@ -41,8 +41,8 @@ abbrev pub frontFor : ℕ → ℕ → Result Account Refusal → Result Account 
 frontFor n m (Ok a) = roomFor n m a
 frontFor n m (Err e) = Err e
 
-abbrev pub reading : List ℕ → ℕ → ℕ → ℕ → Result Account Refusal
-reading book start n m = frontFor n m (frontAccount (drop start book))
+abbrev pub readAt : List ℕ → ℕ → ℕ → ℕ → Result Account Refusal
+readAt book start n m = frontFor n m (frontAccount (drop start book))
 
 -- the account's five numbers
 abbrev pub headed : Result Account Refusal → Result AccountHead Refusal

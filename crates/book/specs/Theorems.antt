@@ -12,11 +12,11 @@ use Rattle.snapshot.specs.declared.account.ChainReading.{ChainReading}
 use Rattle.snapshot.specs.declared.account.Write.{Write}
 use Rattle.snapshot.specs.declared.fault.BookFault.{BookFault}
 use Rattle.book.specs.declared.reader.AccountAt.{AccountAt}
-use Rattle.book.specs.Calls.{reading}
+use Rattle.book.specs.Calls.{readAt}
 use Rattle.book.specs.Format.{bytesOf, sizeOf, sizeIn, frontAccount}
 
 -- each value has at most 32 bits, as the types of the code say
-pub record Fits (a : Account) : Type 0 where
+pub record ValuesFit (a : Account) : Type 0 where
   pub readings : All (λ r. r .reading .value < 2 ^ 32) (a .readings)
   pub writes : All (λ w. w .value < 2 ^ 32) (a .writes)
 
@@ -28,10 +28,10 @@ ReadsBack a = (rest : List ℕ) → frontAccount (bytesOf a ++ rest) ≡ Ok a
 abbrev pub ReadsBackAnywhere : Account → Type 0
 ReadsBackAnywhere a =
     (before rest : List ℕ) (n m : ℕ) → length (a .readings) ≤ n → length (a .writes) ≤ m
-    → reading (before ++ (bytesOf a ++ rest)) (length before) n m ≡ Ok a
+    → readAt (before ++ (bytesOf a ++ rest)) (length before) n m ≡ Ok a
 
 abbrev pub WrittenReadsBack : Type 0
-WrittenReadsBack = (a : Account) → Fits a → lawful a ≡ true → ReadsBack a
+WrittenReadsBack = (a : Account) → ValuesFit a → lawful a ≡ true → ReadsBack a
 
 -- bytes from which an account is read are that account's bytes, with the rest behind them, and the account is lawful
 pub record IsWritten (bs : List ℕ) (a : Account) : Type 0 where

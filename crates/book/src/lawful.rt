@@ -6,8 +6,8 @@ ghost use lib.Dec.{leb, ltb};
 ghost use Rattle.std.specs.shelf.Lists.{All};
 ghost use Rattle.snapshot.specs.Accounts.{Agrees, agreedEnds, all, fewEnough, lawful, soundReading, soundTimestamp, risingFrom, greatestTimestamp, leastPromise};
 ghost use Rattle.snapshot.specs.Limits.{isKey};
-ghost use Rattle.snapshot.specs.Intervals.{interval as from-to};
-ghost use Rattle.book.specs.Theorems.{Fits};
+ghost use Rattle.snapshot.specs.Intervals.{fromTo};
+ghost use Rattle.book.specs.Theorems.{ValuesFit};
 ghost use Rattle.book.specs.Format.{whole};
 use snapshot::account::ChainReading;
 use snapshot::account::Write;
@@ -28,7 +28,7 @@ pub fn is_lawful(
 ) -> bool
     ensures value { λ r. ⌜ r ≡ lawful (whole interval timestamp (now (readings .entry)) (now (writes .entry))) ⌝ }
     ensures means { λ r. ⌜ (r ≡ true → Agrees (whole interval timestamp (now (readings .entry)) (now (writes .entry)))) ⌝ }
-    ensures fits { λ r. ⌜ (r ≡ true → Fits (whole interval timestamp (now (readings .entry)) (now (writes .entry)))) ⌝ }
+    ensures fits { λ r. ⌜ (r ≡ true → ValuesFit (whole interval timestamp (now (readings .entry)) (now (writes .entry)))) ⌝ }
 {
     // `&` has no branch: every rule is looked at.
     are_few(readings, writes)
@@ -100,7 +100,7 @@ fn is_agreed(interval: Interval, readings: &[ChainReading]) -> bool
 
 // From the greatest timestamp to the least promise; without readings, all times.
 fn agreed_interval(readings: &[ChainReading]) -> Interval
-    ensures { λ r. ⌜ r ≡ from-to (greatestTimestamp (now (readings .entry))) (leastPromise (now (readings .entry))) ⌝ }
+    ensures { λ r. ⌜ r ≡ fromTo (greatestTimestamp (now (readings .entry))) (leastPromise (now (readings .entry))) ⌝ }
 {
     let mut agreed = Interval {
         low: 0,

@@ -5,7 +5,7 @@ ghost use Prim.Native.Nat.{_≤_};
 ghost use Rattle.std.specs.Vec.{made};
 ghost use Rattle.std.specs.declared.result.Result.the-variants.{Ok};
 ghost use Rattle.book.specs.Bytes.{overwritten};
-ghost use Rattle.book.specs.Calls.{faulted, frontFor, headed, located, reading as readingAt, readingsOf, writesOf};
+ghost use Rattle.book.specs.Calls.{faulted, frontFor, headed, located, readAt, readingsOf, writesOf};
 ghost use Rattle.book.specs.Format.{countsIn, framed, frontAccount, lawfulOnly, sizeOf, whole};
 ghost use Rattle.book.specs.Theorems.{AcceptedOnly};
 use crate::bytes::u64_at;
@@ -52,9 +52,9 @@ pub fn read_account(
     readings: &mut [ChainReading],
     writes: &mut [Write],
 ) -> Result<AccountAt, BookFault>
-    ensures value { λ r. ⌜ r ≡ faulted start (located start (readingAt (now (book .entry)) start (length (now (readings .entry))) (length (now (writes .entry))))) ⌝ }
-    ensures readings { λ _. ⌜ now (readings .exit) ≡ overwritten (readingsOf (readingAt (now (book .entry)) start (length (now (readings .entry))) (length (now (writes .entry))))) (now (readings .entry)) ⌝ }
-    ensures writes { λ _. ⌜ now (writes .exit) ≡ overwritten (writesOf (readingAt (now (book .entry)) start (length (now (readings .entry))) (length (now (writes .entry))))) (now (writes .entry)) ⌝ }
+    ensures value { λ r. ⌜ r ≡ faulted start (located start (readAt (now (book .entry)) start (length (now (readings .entry))) (length (now (writes .entry))))) ⌝ }
+    ensures readings { λ _. ⌜ now (readings .exit) ≡ overwritten (readingsOf (readAt (now (book .entry)) start (length (now (readings .entry))) (length (now (writes .entry))))) (now (readings .entry)) ⌝ }
+    ensures writes { λ _. ⌜ now (writes .exit) ≡ overwritten (writesOf (readAt (now (book .entry)) start (length (now (readings .entry))) (length (now (writes .entry))))) (now (writes .entry)) ⌝ }
     ensures written { λ r. ⌜ AcceptedOnly (now (book .entry)) start r (now (readings .exit)) (now (writes .exit)) ⌝ }
 {
     match read_front(from_place(book, start), readings, writes) {

@@ -7,7 +7,7 @@ use lib.Dec.{leb, ltb, eqb}
 use lib.ListN.{length, take}
 use Rattle.std.specs.Iters.{folded}
 use Rattle.std.specs.shelf.Lists.{All}
-use Rattle.snapshot.specs.Intervals.{interval, Lies, Current}
+use Rattle.snapshot.specs.Intervals.{fromTo, Lies, Current}
 use Rattle.snapshot.specs.Limits.{openEnd, isKey, isWorker, isTimestamp, chainReadings, writeKeys}
 use Rattle.snapshot.specs.declared.account.AccountHead.{AccountHead}
 use Rattle.snapshot.specs.declared.account.ChainReading.{ChainReading}
@@ -25,7 +25,7 @@ pub record Account : Type 0 where
 abbrev pub headOf : Account → AccountHead
 headOf a =
     record {
-      interval = interval (a .low) (a .high);
+      interval = fromTo (a .low) (a .high);
       timestamp = a .timestamp;
       readings = length (a .readings);
       writes = length (a .writes);
@@ -93,8 +93,8 @@ lawful a =
 -- reading's version is known to be current then.
 pub record Agrees (a : Account) : Type 0 where
   pub some : a .low ≤ a .high
-  pub whenIn : (s : ℕ) → Lies s (interval (a .low) (a .high)) → All (λ r. Current s (r .reading)) (a .readings)
-  pub onlyIn : (s : ℕ) → s ≤ openEnd → All (λ r. Current s (r .reading)) (a .readings) → Lies s (interval (a .low) (a .high))
+  pub whenIn : (s : ℕ) → Lies s (fromTo (a .low) (a .high)) → All (λ r. Current s (r .reading)) (a .readings)
+  pub onlyIn : (s : ℕ) → s ≤ openEnd → All (λ r. Current s (r .reading)) (a .readings) → Lies s (fromTo (a .low) (a .high))
 
 -- the reading and the write that are all zeros
 abbrev pub zeroReading : ChainReading

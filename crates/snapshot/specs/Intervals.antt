@@ -12,8 +12,8 @@ use Rattle.snapshot.specs.declared.fault.Refusal.the-variants.{IntervalsApart}
 use Rattle.snapshot.specs.declared.interval.Interval.{Interval}
 use Rattle.snapshot.specs.declared.account.Reading.{Reading}
 
-abbrev pub interval : ℕ → ℕ → Interval
-interval l h = record { low = l; high = h }
+abbrev pub fromTo : ℕ → ℕ → Interval
+fromTo l h = record { low = l; high = h }
 
 -- The rules.
 
@@ -23,13 +23,13 @@ meetsReading i r = leb (i .low) (r .promise) && leb (r .timestamp) (i .high)
 
 -- narrowing: the larger of low and timestamp, the smaller of high and promise
 abbrev pub narrowed : Interval → Reading → Interval
-narrowed i r = interval (max (i .low) (r .timestamp)) (min (i .high) (r .promise))
+narrowed i r = fromTo (max (i .low) (r .timestamp)) (min (i .high) (r .promise))
 
 -- joining: the larger low and the smaller high, refused where low would exceed high
 abbrev pub joinedOrRefused : Interval → Interval → Result Interval Refusal
 joinedOrRefused i j =
     cond (leb (max (i .low) (j .low)) (min (i .high) (j .high)))
-    (Ok (interval (max (i .low) (j .low)) (min (i .high) (j .high))))
+    (Ok (fromTo (max (i .low) (j .low)) (min (i .high) (j .high))))
     (Err IntervalsApart)
 
 -- What they mean.

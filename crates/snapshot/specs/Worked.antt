@@ -8,7 +8,7 @@ use Rattle.std.specs.Results.{okPart}
 use Rattle.std.specs.declared.option.Option.{Option}
 use Rattle.std.specs.declared.option.Option.the-variants.{Some, None}
 use Rattle.std.specs.shelf.Lists.{All}
-use Rattle.snapshot.specs.Intervals.{interval, meetsReading, narrowed, joinedOrRefused}
+use Rattle.snapshot.specs.Intervals.{fromTo, meetsReading, narrowed, joinedOrRefused}
 use Rattle.snapshot.specs.declared.interval.Interval.{Interval}
 use Rattle.snapshot.specs.declared.account.Reading.{Reading}
 
@@ -27,7 +27,7 @@ abbrev case : Option Interval → Option Interval → Case
 case g s = record { gives = g; should = s }
 
 abbrev narrows : ℕ → ℕ → Option Interval → Case
-narrows t p s = case (afterReading (interval 80 120) t p) s
+narrows t p s = case (afterReading (fromTo 80 120) t p) s
 
 abbrev joins : Interval → Interval → Option Interval → Case
 joins i j s = case (okPart (joinedOrRefused i j)) s
@@ -36,13 +36,13 @@ joins i j s = case (okPart (joinedOrRefused i j)) s
 abbrev pub workedCases : List Case
 workedCases =
     narrows 50 60 None
-    ∷ narrows 50 90 (Some (interval 80 90))
-    ∷ narrows 90 130 (Some (interval 90 120))
+    ∷ narrows 50 90 (Some (fromTo 80 90))
+    ∷ narrows 90 130 (Some (fromTo 90 120))
     ∷ narrows 130 140 None
-    ∷ narrows 50 80 (Some (interval 80 80))
+    ∷ narrows 50 80 (Some (fromTo 80 80))
     ∷ narrows 121 130 None
-    ∷ joins (interval 10 20) (interval 20 30) (Some (interval 20 20))
-    ∷ joins (interval 10 20) (interval 21 30) None
+    ∷ joins (fromTo 10 20) (fromTo 20 30) (Some (fromTo 20 20))
+    ∷ joins (fromTo 10 20) (fromTo 21 30) None
     ∷ []
 
 -- every case of the table, of which there are n, comes out as it should

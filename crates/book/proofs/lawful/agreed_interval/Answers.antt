@@ -4,7 +4,7 @@ use lib.ListN.{getD, take}
 use Rattle.std.proofs.shelf.Lists.{take-all}
 use Rattle.std.proofs.shelf.Sums.{folded-more}
 use Rattle.snapshot.specs.Accounts.{greatestTimestamp, leastPromise, zeroReading}
-use Rattle.snapshot.specs.Intervals.{interval, narrowed}
+use Rattle.snapshot.specs.Intervals.{fromTo, narrowed}
 use Rattle.snapshot.specs.Limits.{openEnd}
 use Rattle.book.proofs.lawful.agreed_interval.Needs as need
 
@@ -18,11 +18,11 @@ loop-reading-again c =
     let r = getD rs i zeroReading .reading in
     c .narrow-agreed .ensures .value
     ∙ ap (λ a. narrowed a r) (c .loop-reading .inv)
-    ∙ ap (λ l. interval l (min (leastPromise (take i rs)) (r .promise))) (sym low)
-    ∙ ap (λ h. interval (greatestTimestamp (take (i + 1) rs)) h) (sym high)
+    ∙ ap (λ l. fromTo l (min (leastPromise (take i rs)) (r .promise))) (sym low)
+    ∙ ap (λ h. fromTo (greatestTimestamp (take (i + 1) rs)) h) (sym high)
 
 pub returns : need.returns
 returns c =
     c .loop-reading .inv
-    ∙ ap (λ rs. interval (greatestTimestamp rs) (leastPromise rs))
+    ∙ ap (λ rs. fromTo (greatestTimestamp rs) (leastPromise rs))
     (take-all (c .loop-reading .reading-index) (c .args .readings .now) (c .loop-reading-test .left))

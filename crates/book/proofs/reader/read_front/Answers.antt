@@ -5,7 +5,7 @@ use Prim.Native.Nat.{_+_, _-_, _*_}
 use lib.ListN.{length, drop, length-take}
 use Rattle.std.proofs.shelf.Results.{err-from-errBy}
 use Rattle.std.specs.declared.result.Result.the-variants.{Ok, Err}
-use Rattle.snapshot.specs.Intervals.{interval}
+use Rattle.snapshot.specs.Intervals.{fromTo}
 use Rattle.book.specs.Bytes.{overwritten, recordsFrom}
 use Rattle.book.specs.Calls.{frontFor, headed, readingsOf, writesOf}
 use Rattle.book.specs.Format.{frontAccount, lawfulOnly, readingFrom, readingsIn, writeFrom, writesIn, whole}
@@ -42,7 +42,7 @@ returns c =
     ∙ ap (λ count. recordsFrom writeFrom 5 count (drop (28 + 22 * k .readings) bs))
     (length-take (k .writes - 0) _ ∙ omega (arith, fits .1, ap (λ x. x .writes) (passes .1)))
     ∙ ap (λ count. recordsFrom writeFrom 5 (writesIn bs) (drop (28 + 22 * count) bs)) (sym (ap (λ x. x .readings) (passes .1))) in
-    let same : lawfulOnly (whole (interval (c .u64-at .result) (c .u64-at-2 .result)) (c .u64-at-timestamp .result) (c .get-all .last .into) (c .get-all-2 .last .into)) ≡ frontAccount bs =
+    let same : lawfulOnly (whole (fromTo (c .u64-at .result) (c .u64-at-2 .result)) (c .u64-at-timestamp .result) (c .get-all .last .into) (c .get-all-2 .last .into)) ≡ frontAccount bs =
     ap lawfulOnly (account-from bs (c .u64-at .ensures) (c .u64-at-2 .ensures) (c .u64-at-timestamp .ensures) readings writes) ∙ sym (passes .0) in
     let r = ap (frontFor (length (c .args .readings .now)) (length (c .args .writes .now))) same in
     record {
