@@ -21,9 +21,9 @@ use Rattle.snapshot.specs.Intervals.{fromTo}
 use Rattle.book.specs.Bytes.{numberAt, overwritten, recordsFrom}
 use Rattle.book.specs.Calls.{faulted, frontFor, headed, located, readAt}
 use Rattle.book.specs.Format.{accountFrom, bytesOf, countsIn, framed, frontAccount, lawfulOnly, readingFrom, readingsIn, sizeOf, whole, writeFrom, writesIn}
-use Rattle.book.specs.Theorems.{Accepted, IsWritten}
+use Rattle.book.specs.Theorems.{Accepted}
 use Rattle.book.specs.declared.reader.Counts.{Counts}
-use Rattle.book.proofs.RoundTrip.{accepted-is-written, bounds, takes-its-size}
+use Rattle.book.proofs.RoundTrip.{IsWritten, accepted-is-written, bounds, takes-its-size}
 
 -- The frame.
 
@@ -105,6 +105,7 @@ module _ {book : List ℕ} {start n m : ℕ} {h : AccountHead} (r : Read book st
         lawfully = rw same at (r .written .lawfully);
         stands = rw same at (r .written .front ∙ ap (λ bs. bytesOf a ++ bs) rest);
         takes = rw same at after;
+        size = ends;
       }
 
   pub read-answer : (end : ℕ) → end ≡ start + sizeOf (h .readings) (h .writes) → Ok (record { head = h; end = end }) ≡ faulted start (located start (readAt book start n m))

@@ -21,7 +21,7 @@ use Rattle.snapshot.specs.declared.account.Write.{Write}
 use Rattle.snapshot.specs.declared.fault.Refusal.{Refusal}
 use Rattle.book.specs.Bytes.{bigEndian, numberAt, exclusiveOr, recordsFrom}
 use Rattle.book.specs.Format.{readingBytes, writeBytes, headBytes, bodyBytes, bytesOf, sizeOf, sizeIn, readingsIn, writesIn, readingFrom, writeFrom, accountFrom, frontAccount}
-use Rattle.book.specs.Theorems.{ValuesFit, WrittenReadsBack, IsWritten, AcceptedIsWritten, TakesItsSize}
+use Rattle.book.specs.Theorems.{ValuesFit}
 use Rattle.book.proofs.Parts.{small-part, byte-then, part-then, front-then}
 use Rattle.book.proofs.Numbers.{number-bytes, bytes-at}
 use Rattle.book.proofs.Records.{Held, length-records, length-readings, length-writes, readings-back, writes-back, readings-written, writes-written}
@@ -31,7 +31,7 @@ use Rattle.book.proofs.Records.{Held, length-records, length-readings, length-
 pub length-body : (a : Account) → length (bodyBytes a) ≡ 28 + (22 * length (a .readings) + 5 * length (a .writes))
 length-body a = omega (arith, length-append (joined readingBytes (a .readings)) (joined writeBytes (a .writes)), length-readings (a .readings), length-writes (a .writes))
 
-pub takes-its-size : TakesItsSize
+pub takes-its-size : (a : Account) → length (bytesOf a) ≡ sizeOf (length (a .readings)) (length (a .writes))
 unfolding bytesOf
 takes-its-size a = length-append (bodyBytes a) (exclusiveOr (bodyBytes a) ∷ []) ∙ omega (arith, length-body a)
 
@@ -130,7 +130,7 @@ account-front a rest fits law =
     } in
     passes (body ++ tail) checks ∙ ap Ok back
 
-pub written-reads-back : WrittenReadsBack
+pub written-reads-back : (a : Account) → ValuesFit a → lawful a ≡ true → (rest : List ℕ) → frontAccount (bytesOf a ++ rest) ≡ Ok a
 unfolding bytesOf
 written-reads-back a fits law rest =
     ap frontAccount (append-assoc (bodyBytes a) (exclusiveOr (bodyBytes a) ∷ []) rest) ∙ account-front a rest fits law
@@ -177,7 +177,12 @@ module _ (bs : List ℕ) (c : Checks bs) (small : Under 256 (take (sizeIn bs) bs
       ∙ sym (take-more bs k 0 (omega arith))
       ∙ ap (λ n. take n bs) size
 
-pub accepted-is-written : AcceptedIsWritten
+-- bytes from which an account is read are that account's bytes, with the rest behind them, and the account is lawful
+pub record IsWritten (bs : List ℕ) (a : Account) : Type 0 where
+  pub front : bs ≡ bytesOf a ++ drop (length (bytesOf a)) bs
+  pub lawfully : lawful a ≡ true
+
+pub accepted-is-written : (bs : List ℕ) → Under 256 (take (sizeIn bs) bs) → (a : Account) → frontAccount bs ≡ Ok a → IsWritten bs a
 accepted-is-written bs small a read =
     let c = passed bs a read in
     let same : accountFrom bs ≡ a = same-ok (accountFrom bs) a (sym (passes bs c) ∙ read) in

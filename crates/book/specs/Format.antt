@@ -18,6 +18,16 @@ use Rattle.snapshot.specs.declared.fault.Refusal.the-variants.{AccountCut, Wron
 use Rattle.book.specs.declared.reader.Counts.{Counts}
 use Rattle.book.specs.Bytes.{bigEndian, numberAt, recordsFrom, exclusiveOr}
 
+-- How many bytes a reading, a write, and what stands before them take.
+abbrev pub readingSize : ℕ
+readingSize = 22
+
+abbrev pub writeSize : ℕ
+writeSize = 5
+
+abbrev pub headSize : ℕ
+headSize = 28
+
 -- an account from its ends, its timestamp and its two lists
 abbrev pub whole : Interval → ℕ → List ChainReading → List Write → Account
 whole i t rs ws = record { low = i .low; high = i .high; timestamp = t; readings = rs; writes = ws }
@@ -52,9 +62,9 @@ bodyBytes a = headBytes a ++ (joined readingBytes (a .readings) ++ joined writeB
 unfoldable pub bytesOf : Account → List ℕ
 bytesOf a = bodyBytes a ++ (exclusiveOr (bodyBytes a) ∷ [])
 
--- how many bytes an account of n readings and m writes has
+-- how many bytes an account of n readings and m writes has, the last byte included
 abbrev pub sizeOf : ℕ → ℕ → ℕ
-sizeOf n m = 29 + (22 * n + 5 * m)
+sizeOf n m = headSize + 1 + (readingSize * n + writeSize * m)
 
 -- Reading.
 
@@ -66,6 +76,7 @@ readingFrom bs =
 abbrev pub writeFrom : List ℕ → Write
 writeFrom bs = record { key = getD bs 0 0; value = numberAt 1 4 bs }
 
+-- the two counts stand behind the mark
 abbrev pub readingsIn : List ℕ → ℕ
 readingsIn bs = getD bs 2 0
 
@@ -83,8 +94,8 @@ accountFrom bs =
       low = numberAt 4 8 bs;
       high = numberAt 12 8 bs;
       timestamp = numberAt 20 8 bs;
-      readings = recordsFrom readingFrom 22 (readingsIn bs) (drop 28 bs);
-      writes = recordsFrom writeFrom 5 (writesIn bs) (drop (28 + 22 * readingsIn bs) bs);
+      readings = recordsFrom readingFrom readingSize (readingsIn bs) (drop headSize bs);
+      writes = recordsFrom writeFrom writeSize (writesIn bs) (drop (headSize + readingSize * readingsIn bs) bs);
     }
 
 -- refused unless the test holds
@@ -103,6 +114,7 @@ framed bs rest =
 abbrev pub countsIn : List ℕ → Counts
 countsIn bs = record { readings = readingsIn bs; writes = writesIn bs }
 
+-- an unlawful account is refused
 abbrev pub lawfulOnly : Account → Result Account Refusal
 lawfulOnly a = check (lawful a) Unlawful (Ok a)
 

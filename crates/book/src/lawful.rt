@@ -102,10 +102,7 @@ fn is_agreed(interval: Interval, readings: &[ChainReading]) -> bool
 fn agreed_interval(readings: &[ChainReading]) -> Interval
     ensures { λ r. ⌜ r ≡ fromTo (greatestTimestamp (now (readings .entry))) (leastPromise (now (readings .entry))) ⌝ }
 {
-    let mut agreed = Interval {
-        low: 0,
-        high: OPEN_END,
-    };
+    let mut agreed = Interval::ALL_TIMES;
     for reading in readings {
         agreed = agreed.narrow(reading.reading);
     }

@@ -5,7 +5,7 @@ ghost use Prim.Native.Nat.{ℕ, _+_, _*_, _≤_};
 ghost use lib.ListN.{length, drop};
 ghost use Rattle.std.specs.Joined.{joined};
 ghost use Rattle.book.specs.Bytes.{placed, recordsFrom};
-ghost use Rattle.book.specs.Format.{readingBytes, readingFrom, writeBytes, writeFrom};
+ghost use Rattle.book.specs.Format.{readingBytes, readingFrom, readingSize, writeBytes, writeFrom, writeSize};
 use crate::bytes::put_u32;
 use crate::bytes::put_u64;
 use crate::bytes::u32_at;
@@ -13,6 +13,13 @@ use crate::bytes::u64_at;
 use snapshot::account::ChainReading;
 use snapshot::account::Reading;
 use snapshot::account::Write;
+
+// How many bytes a reading, a write, and what stands before them take.
+pub(crate) const READING_SIZE: usize = 22;
+
+pub(crate) const WRITE_SIZE: usize = 5;
+
+pub(crate) const HEAD_SIZE: usize = 28;
 
 // A record that has always the same number of bytes.
 pub(crate) trait Packed: Sized {
@@ -39,14 +46,14 @@ pub(crate) trait Packed: Sized {
 }
 
 pub(crate) impl Packed for ChainReading as ReadingPacked {
-    ghost size = { 22 };
+    ghost size = { readingSize };
 
     ghost pack = { readingBytes };
 
     ghost unpack = { readingFrom };
 
     fn size() -> usize {
-        22
+        READING_SIZE
     }
 
     fn put(&self, buffer: &mut [u8], at: usize) {
@@ -71,14 +78,14 @@ pub(crate) impl Packed for ChainReading as ReadingPacked {
 }
 
 pub(crate) impl Packed for Write as WritePacked {
-    ghost size = { 5 };
+    ghost size = { writeSize };
 
     ghost pack = { writeBytes };
 
     ghost unpack = { writeFrom };
 
     fn size() -> usize {
-        5
+        WRITE_SIZE
     }
 
     fn put(&self, buffer: &mut [u8], at: usize) {

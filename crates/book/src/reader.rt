@@ -4,12 +4,15 @@ ghost use lib.ListN.{length, drop};
 ghost use Prim.Native.Nat.{_≤_};
 ghost use Rattle.std.specs.Vec.{made};
 ghost use Rattle.std.specs.declared.result.Result.the-variants.{Ok};
+ghost use Rattle.snapshot.specs.Limits.{chainReadings, writeKeys};
 ghost use Rattle.book.specs.Bytes.{overwritten};
 ghost use Rattle.book.specs.Calls.{faulted, frontFor, headed, located, readAt, readingsOf, writesOf};
 ghost use Rattle.book.specs.Format.{countsIn, framed, frontAccount, lawfulOnly, sizeOf, whole};
 ghost use Rattle.book.specs.Theorems.{AcceptedOnly};
 use crate::bytes::u64_at;
 use crate::lawful::is_lawful;
+use crate::packed::HEAD_SIZE;
+use crate::packed::READING_SIZE;
 use crate::packed::ReadingPacked;
 use crate::packed::WritePacked;
 use crate::packed::get_all;
@@ -84,8 +87,8 @@ fn read_front(
     let mut all_writes = [NO_WRITE; WRITE_KEYS];
     let found = &mut all_readings[0..n];
     let written = &mut all_writes[0..m];
-    get_all(bytes, 28, found);
-    get_all(bytes, 28 + 22 * n, written);
+    get_all(bytes, HEAD_SIZE, found);
+    get_all(bytes, HEAD_SIZE + READING_SIZE * n, written);
     let interval = Interval {
         low: u64_at(bytes, 4),
         high: u64_at(bytes, 12),
@@ -127,7 +130,7 @@ fn hand_over(
 // is wrong, or a count is out of range.
 fn check_frame(bytes: &[u8]) -> Result<Counts, Refusal>
     ensures value { λ r. ⌜ r ≡ framed (now (bytes .entry)) (Ok (countsIn (now (bytes .entry)))) ⌝ }
-    ensures fits { λ r. ⌜ made r (λ k. (k .readings ≤ 32) × (k .writes ≤ 8) × (sizeOf (k .readings) (k .writes) ≤ length (now (bytes .entry)))) ⌝ }
+    ensures fits { λ r. ⌜ made r (λ k. (k .readings ≤ chainReadings) × (k .writes ≤ writeKeys) × (sizeOf (k .readings) (k .writes) ≤ length (now (bytes .entry)))) ⌝ }
 {
     let [first, second, n, m, rest @ ..] = bytes else {
         return Err(Refusal::AccountCut);

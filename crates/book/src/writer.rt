@@ -4,14 +4,18 @@ ghost use mathlib.Core.Path.{_≡_};
 ghost use Prim.Native.Nat.{_+_, _*_, _≤_};
 ghost use lib.ListN.{length};
 ghost use Rattle.std.specs.Results.{isOk};
+ghost use Rattle.snapshot.specs.Limits.{chainReadings, writeKeys};
 ghost use Rattle.book.specs.Bytes.{placed};
 ghost use Rattle.book.specs.Calls.{bufferAfter, faulted, writing};
-ghost use Rattle.book.specs.Format.{bytesOf, headBytes, sizeOf, whole};
+ghost use Rattle.book.specs.Format.{bytesOf, headBytes, headSize, sizeOf, whole};
 ghost use Rattle.book.specs.Theorems.{ReadsBackAnywhere};
 use crate::bytes::put_bytes;
 use crate::bytes::put_u64;
 use crate::lawful::is_lawful;
+use crate::packed::HEAD_SIZE;
+use crate::packed::READING_SIZE;
 use crate::packed::ReadingPacked;
+use crate::packed::WRITE_SIZE;
 use crate::packed::WritePacked;
 use crate::packed::put_all;
 use crate::sum::last_byte;
@@ -56,11 +60,11 @@ fn put_account(
     writes: &[Write],
     buffer: &mut [u8],
 )
-    requires { ⌜ length (now readings) ≤ 32 ⌝ ∗ ⌜ length (now writes) ≤ 8 ⌝ ∗ ⌜ sizeOf (length (now readings)) (length (now writes)) ≤ length (now buffer) ⌝ }
+    requires { ⌜ length (now readings) ≤ chainReadings ⌝ ∗ ⌜ length (now writes) ≤ writeKeys ⌝ ∗ ⌜ sizeOf (length (now readings)) (length (now writes)) ≤ length (now buffer) ⌝ }
     ensures { λ _. ⌜ now (buffer .exit) ≡ placed 0 (bytesOf (whole interval timestamp (now (readings .entry)) (now (writes .entry)))) (now (buffer .entry)) ⌝ }
 {
     put_head(interval, timestamp, readings, writes, buffer);
-    let place = put_all(readings, buffer, 28);
+    let place = put_all(readings, buffer, HEAD_SIZE);
     let last = put_all(writes, buffer, place);
     let sum = last_byte(&buffer[0..last]);
     buffer[last] = sum;
@@ -68,13 +72,13 @@ fn put_account(
 
 // How many bytes an account of so many readings and writes has.
 pub(crate) fn account_size(readings: usize, writes: usize) -> usize
-    requires { ⌜ readings ≤ 32 ⌝ ∗ ⌜ writes ≤ 8 ⌝ }
+    requires { ⌜ readings ≤ chainReadings ⌝ ∗ ⌜ writes ≤ writeKeys ⌝ }
     ensures { λ r. ⌜ r ≡ sizeOf readings writes ⌝ }
 {
-    29 + 22 * readings + 5 * writes
+    HEAD_SIZE + 1 + READING_SIZE * readings + WRITE_SIZE * writes
 }
 
-// Puts the mark, the counts, low, high and timestamp into the first 28 bytes.
+// Puts the mark, the counts, low, high and timestamp before the readings.
 fn put_head(
     interval: Interval,
     timestamp: u64,
@@ -82,7 +86,7 @@ fn put_head(
     writes: &[Write],
     buffer: &mut [u8],
 )
-    requires { ⌜ length (now readings) ≤ 32 ⌝ ∗ ⌜ length (now writes) ≤ 8 ⌝ ∗ ⌜ 28 ≤ length (now buffer) ⌝ }
+    requires { ⌜ length (now readings) ≤ chainReadings ⌝ ∗ ⌜ length (now writes) ≤ writeKeys ⌝ ∗ ⌜ headSize ≤ length (now buffer) ⌝ }
     ensures { λ _. ⌜ now (buffer .exit) ≡ placed 0 (headBytes (whole interval timestamp (now (readings .entry)) (now (writes .entry)))) (now (buffer .entry)) ⌝ }
 {
     put_bytes(

@@ -24,20 +24,143 @@ use std::test::*;
 const OPEN_END: u64 = 281_474_976_710_656;
 
 const SHORTEST: [u8; 29] = [
-    0xC3, 0x3C, 0, 0, 0, 0, 0, 0, 0, 0, 0, 0, 0, 1, 0, 0, 0, 0, 0, 0, 0, 0, 0, 0, 0, 0, 0, 0, 0xFE,
+    0xC3,
+    0x3C,
+    0,
+    0,
+    0,
+    0,
+    0,
+    0,
+    0,
+    0,
+    0,
+    0,
+    0,
+    1,
+    0,
+    0,
+    0,
+    0,
+    0,
+    0,
+    0,
+    0,
+    0,
+    0,
+    0,
+    0,
+    0,
+    0,
+    0xFE,
 ];
 
 // The bytes of `lawful_sample`, as the format lays them out.
 const SAMPLE_BYTES: [u8; 105] = [
-    0xC3, 0x3C, 3, 2, // mark, counts
-    0, 0, 0, 0, 0, 0, 0, 20, // low
-    0, 0, 0, 0, 0, 0, 0, 30, // high
-    0, 0, 0, 0, 0, 0, 0, 51, // timestamp
-    3, 7, 0, 0, 0, 1, 0, 0, 0, 0, 0, 0, 0, 10, 0, 0, 0, 0, 0, 0, 0, 40, // a reading
-    1, 9, 255, 255, 255, 255, 0, 0, 0, 0, 0, 0, 0, 20, 0, 0, 0, 0, 0, 0, 0, 50, // a reading
-    7, 63, 0, 0, 1, 0, 0, 0, 0, 0, 0, 0, 0, 15, 0, 0, 0, 0, 0, 0, 0, 30, // a reading
-    2, 0, 0, 0, 5, // a write
-    40, 0, 0, 0, 6, // a write
+    0xC3,
+    0x3C,
+    3,
+    2, // mark, counts
+    0,
+    0,
+    0,
+    0,
+    0,
+    0,
+    0,
+    20, // low
+    0,
+    0,
+    0,
+    0,
+    0,
+    0,
+    0,
+    30, // high
+    0,
+    0,
+    0,
+    0,
+    0,
+    0,
+    0,
+    51, // timestamp
+    3,
+    7,
+    0,
+    0,
+    0,
+    1,
+    0,
+    0,
+    0,
+    0,
+    0,
+    0,
+    0,
+    10,
+    0,
+    0,
+    0,
+    0,
+    0,
+    0,
+    0,
+    40, // a reading
+    1,
+    9,
+    255,
+    255,
+    255,
+    255,
+    0,
+    0,
+    0,
+    0,
+    0,
+    0,
+    0,
+    20,
+    0,
+    0,
+    0,
+    0,
+    0,
+    0,
+    0,
+    50, // a reading
+    7,
+    63,
+    0,
+    0,
+    1,
+    0,
+    0,
+    0,
+    0,
+    0,
+    0,
+    0,
+    0,
+    15,
+    0,
+    0,
+    0,
+    0,
+    0,
+    0,
+    0,
+    30, // a reading
+    2,
+    0,
+    0,
+    0,
+    5, // a write
+    40,
+    0,
+    0,
+    0,
+    6, // a write
     0xCF,
 ];
 
@@ -75,7 +198,11 @@ fn lawful_sample() -> Sample {
         low: 20,
         high: 30,
         timestamp: 51,
-        readings: [made(3, 7, 1, 10, 40), made(1, 9, 4_294_967_295, 20, 50), made(7, 63, 256, 15, 30)],
+        readings: [
+            made(3, 7, 1, 10, 40),
+            made(1, 9, 4_294_967_295, 20, 50),
+            made(7, 63, 256, 15, 30),
+        ],
         writes: [Write { key: 2, value: 5 }, Write { key: 40, value: 6 }],
     }
 }
@@ -85,7 +212,13 @@ fn write(account: &Sample, buffer: &mut [u8]) -> Result<usize, BookFault> {
         low: account.low,
         high: account.high,
     };
-    write_account(interval, account.timestamp, &account.readings, &account.writes, buffer)
+    write_account(
+        interval,
+        account.timestamp,
+        &account.readings,
+        &account.writes,
+        buffer,
+    )
 }
 
 // The call was refused by the book, with this number and byte place, and names no place, leg or key.
@@ -96,7 +229,10 @@ fn refused<T: Drop>(answer: Result<T, BookFault>, number: u8, start: usize) -> R
             check_eq(fault.fault.refusal.number(), number)?;
             check_eq(fault.start, start)?;
             check_eq(fault.fault.layer, Layer::Book)?;
-            check_eq([fault.fault.place, fault.fault.leg, fault.fault.key], [255, 255, 255])
+            check_eq(
+                [fault.fault.place, fault.fault.leg, fault.fault.key],
+                [255, 255, 255],
+            )
         }
     }
 }
@@ -127,10 +263,22 @@ fn sample_is_written() -> Result<(), Fail> {
 fn longest_account_comes_back() -> Result<(), Fail> {
     let mut readings = [made(7, 63, 4_294_967_295, 5, 9); 32];
     readings[31] = made(0, 1, 2, 8, 8);
-    let writes = [held(0), held(1), held(2), held(3), held(4), held(5), held(62), held(63)];
+    let writes = [
+        held(0),
+        held(1),
+        held(2),
+        held(3),
+        held(4),
+        held(5),
+        held(62),
+        held(63),
+    ];
     let interval = Interval { low: 8, high: 8 };
     let mut buffer = [7u8; 774];
-    check_eq(write_account(interval, 10, &readings, &writes, &mut buffer).ok(), Some(773))?;
+    check_eq(
+        write_account(interval, 10, &readings, &writes, &mut buffer).ok(),
+        Some(773),
+    )?;
     check_eq(buffer[773], 7)?;
     let mut read_readings = [NO_READING; 32];
     let mut read_writes = [NO_WRITE; 8];
@@ -139,7 +287,14 @@ fn longest_account_comes_back() -> Result<(), Fail> {
     };
     check_eq(read.end, 773)?;
     check_eq(read.head.interval, interval)?;
-    check_eq([read.head.timestamp as usize, read.head.readings, read.head.writes], [10, 32, 8])?;
+    check_eq(
+        [
+            read.head.timestamp as usize,
+            read.head.readings,
+            read.head.writes,
+        ],
+        [10, 32, 8],
+    )?;
     check(read_readings == readings)?;
     check(read_writes == writes)
 }
@@ -159,9 +314,24 @@ fn unlawful_accounts_are_not_written() -> Result<(), Fail> {
     is_unlawful(&Sample { low: 21, ..good })?;
     is_unlawful(&Sample { high: 29, ..good })?;
     is_unlawful(&Sample { high: 31, ..good })?;
-    is_unlawful(&Sample { timestamp: 0, ..good })?;
-    is_unlawful(&Sample { timestamp: 50, ..good })?;
-    is_unlawful(&Sample { timestamp: OPEN_END, ..good })
+    is_unlawful(
+        &Sample {
+            timestamp: 0,
+            ..good
+        },
+    )?;
+    is_unlawful(
+        &Sample {
+            timestamp: 50,
+            ..good
+        },
+    )?;
+    is_unlawful(
+        &Sample {
+            timestamp: OPEN_END,
+            ..good
+        },
+    )
 }
 
 #[test]
@@ -169,24 +339,66 @@ fn unlawful_readings_are_not_written() -> Result<(), Fail> {
     let good = lawful_sample();
     let [first, second, third] = good.readings;
     let worker = [made(8, 7, 1, 10, 40), second, third];
-    is_unlawful(&Sample { readings: worker, ..good })?;
+    is_unlawful(
+        &Sample {
+            readings: worker,
+            ..good
+        },
+    )?;
     let key = [made(3, 64, 1, 10, 40), second, third];
-    is_unlawful(&Sample { readings: key, ..good })?;
+    is_unlawful(
+        &Sample {
+            readings: key,
+            ..good
+        },
+    )?;
     // the ends are right, and apart
     let apart = [first, made(1, 9, 0, 31, 50), third];
-    is_unlawful(&Sample { low: 31, readings: apart, ..good })?;
+    is_unlawful(
+        &Sample {
+            low: 31,
+            readings: apart,
+            ..good
+        },
+    )?;
     // only the second's timestamp is above its promise
-    let backward = [made(0, 0, 0, 0, 40), made(1, 9, 0, 50, 49), made(0, 0, 0, 0, 50)];
-    is_unlawful(&Sample { low: 50, high: 40, readings: backward, ..good })
+    let backward = [
+        made(0, 0, 0, 0, 40),
+        made(1, 9, 0, 50, 49),
+        made(0, 0, 0, 0, 50),
+    ];
+    is_unlawful(
+        &Sample {
+            low: 50,
+            high: 40,
+            readings: backward,
+            ..good
+        },
+    )
 }
 
 #[test]
 fn unlawful_writes_are_not_written() -> Result<(), Fail> {
     let good = lawful_sample();
     let [first, second] = good.writes;
-    is_unlawful(&Sample { writes: [second, first], ..good })?;
-    is_unlawful(&Sample { writes: [first, first], ..good })?;
-    is_unlawful(&Sample { writes: [first, Write { key: 64, value: 6 }], ..good })
+    is_unlawful(
+        &Sample {
+            writes: [second, first],
+            ..good
+        },
+    )?;
+    is_unlawful(
+        &Sample {
+            writes: [first, first],
+            ..good
+        },
+    )?;
+    is_unlawful(
+        &Sample {
+            writes: [first, Write { key: 64, value: 6 }],
+            ..good
+        },
+    )
 }
 
 #[test]
@@ -196,12 +408,36 @@ fn unlawful_sizes_are_not_written() -> Result<(), Fail> {
         high: OPEN_END,
     };
     let mut buffer = [7u8; 1000];
-    refused(write_account(Interval { low: 0, high: 0 }, 0, &[NO_READING; 33], &[], &mut buffer), 21, 0)?;
-    let writes = [held(0), held(1), held(2), held(3), held(4), held(5), held(6), held(7), held(8)];
+    refused(
+        write_account(
+            Interval { low: 0, high: 0 },
+            0,
+            &[NO_READING; 33],
+            &[],
+            &mut buffer,
+        ),
+        21,
+        0,
+    )?;
+    let writes = [
+        held(0),
+        held(1),
+        held(2),
+        held(3),
+        held(4),
+        held(5),
+        held(6),
+        held(7),
+        held(8),
+    ];
     refused(write_account(all, 1, &[], &writes, &mut buffer), 21, 0)?;
     // a timestamp without writes, and a promise at the open end
     refused(write_account(all, 1, &[], &[], &mut buffer), 21, 0)?;
-    refused(write_account(all, 0, &[made(0, 0, 0, 0, OPEN_END)], &[], &mut buffer), 21, 0)?;
+    refused(
+        write_account(all, 0, &[made(0, 0, 0, 0, OPEN_END)], &[], &mut buffer),
+        21,
+        0,
+    )?;
     check(buffer == [7u8; 1000])
 }
 
@@ -218,7 +454,11 @@ fn short_buffer_is_refused() -> Result<(), Fail> {
 fn is_refused(book: &[u8], start: usize, number: u8) -> Result<(), Fail> {
     let mut readings = [made(9, 9, 9, 9, 9); 32];
     let mut writes = [held(9); 8];
-    refused(read_account(book, start, &mut readings, &mut writes), number, start)?;
+    refused(
+        read_account(book, start, &mut readings, &mut writes),
+        number,
+        start,
+    )?;
     check(readings == [made(9, 9, 9, 9, 9); 32])?;
     check(writes == [held(9); 8])
 }
@@ -246,7 +486,14 @@ fn account_comes_back_from_any_place() -> Result<(), Fail> {
     let interval = Interval { low: 20, high: 30 };
     check_eq(read.end, 205)?;
     check_eq(read.head.interval, interval)?;
-    check_eq([read.head.timestamp as usize, read.head.readings, read.head.writes], [51, 3, 2])?;
+    check_eq(
+        [
+            read.head.timestamp as usize,
+            read.head.readings,
+            read.head.writes,
+        ],
+        [51, 3, 2],
+    )?;
     let [r0, r1, r2] = good.readings;
     let [w0, w1] = good.writes;
     check_eq(readings, [r0, r1, r2, NO_READING])?;
@@ -295,12 +542,20 @@ fn damaged_accounts_are_refused() -> Result<(), Fail> {
 fn short_lists_are_refused() -> Result<(), Fail> {
     let mut two_readings = [made(9, 9, 9, 9, 9); 2];
     let mut two_writes = [held(9); 2];
-    refused(read_account(&SAMPLE_BYTES, 0, &mut two_readings, &mut two_writes), 10, 0)?;
+    refused(
+        read_account(&SAMPLE_BYTES, 0, &mut two_readings, &mut two_writes),
+        10,
+        0,
+    )?;
     check(two_readings == [made(9, 9, 9, 9, 9); 2])?;
     check(two_writes == [held(9); 2])?;
     let mut three_readings = [made(9, 9, 9, 9, 9); 3];
     let mut one_write = [held(9)];
-    refused(read_account(&SAMPLE_BYTES, 0, &mut three_readings, &mut one_write), 10, 0)?;
+    refused(
+        read_account(&SAMPLE_BYTES, 0, &mut three_readings, &mut one_write),
+        10,
+        0,
+    )?;
     check(three_readings == [made(9, 9, 9, 9, 9); 3])?;
     check(one_write == [held(9)])
 }
@@ -357,7 +612,15 @@ fn books_are_listed(rt: LibcRuntime) -> Result<(), Fail> {
     lists(heap, &SHORTEST[0..28], "bad 18 0\n")?;
     let mut two = SHORTEST.to_vec(heap)?;
     two.extend_from_slice(&SAMPLE_BYTES)?;
-    lists(heap, two.as_slice(), "0 281474976710656 0 0 0\n20 30 51 3 2\nend 2\n")?;
+    lists(
+        heap,
+        two.as_slice(),
+        "0 281474976710656 0 0 0\n20 30 51 3 2\nend 2\n",
+    )?;
     two.push(0xC3)?;
-    lists(heap, two.as_slice(), "0 281474976710656 0 0 0\n20 30 51 3 2\nbad 18 134\n")
+    lists(
+        heap,
+        two.as_slice(),
+        "0 281474976710656 0 0 0\n20 30 51 3 2\nbad 18 134\n",
+    )
 }

@@ -12,6 +12,12 @@ pub struct Interval {
 }
 
 impl Interval {
+    // From 0 to the open end.
+    pub const ALL_TIMES: Interval = Interval {
+        low: 0,
+        high: OPEN_END,
+    };
+
     // Was the reading's version current, as far as is known, at some time of the interval?
     pub fn meets(self, reading: Reading) -> bool
         ensures value { λ r. ⌜ r ≡ meetsReading self reading ⌝ }
