@@ -1,3 +1,4 @@
+pub mod Changes
 pub mod Placing
 pub mod Packing
 pub mod Decoding

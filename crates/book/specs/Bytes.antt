@@ -1,8 +1,9 @@
 -- Numbers as bytes, highest first, records one after another, and the exclusive-or of bytes.
 use mathlib.Core.List.{List, [], _∷_, _++_}
-use Prim.Native.Nat.{ℕ, zero, suc, _+_, _*_, _/_, _%_, _^_}
+use mathlib.Core.Path.{_≡_}
+use Prim.Native.Nat.{ℕ, zero, suc, _+_, _*_, _/_, _%_, _^_, _<_}
 use lib.Bits.{bitXor}
-use lib.ListN.{length, take, drop}
+use lib.ListN.{length, getD, set, take, drop}
 use Rattle.std.specs.Iters.{folded}
 use Rattle.std.specs.shelf.Digits.{number}
 
@@ -23,6 +24,10 @@ recordsFrom one size (suc count) bs = one bs ∷ recordsFrom one size count (dro
 -- the exclusive-or of all bytes
 abbrev pub exclusiveOr : List ℕ → ℕ
 exclusiveOr bs = folded bitXor 0 bs
+
+-- one changed byte changes the exclusive-or: where it is the same, the byte is as it was
+abbrev pub TellsOneChange : List ℕ → Type 0
+TellsOneChange bs = (i b : ℕ) → i < length bs → exclusiveOr (set bs i b) ≡ exclusiveOr bs → b ≡ getD bs i 0
 
 -- a list whose first elements are replaced by these
 abbrev pub overwritten : {X : Type 0} → List X → List X → List X

@@ -1,7 +1,7 @@
 -- The refusals with their numbers, and what a fault holds.
 use mathlib.Core.List.{List, [], _∷_}
 use mathlib.Core.Path.{_≡_}
-use Prim.Native.Nat.{ℕ, suc}
+use Prim.Native.Nat.{ℕ, _-_, _≤_}
 use lib.ListN.{getD}
 use Rattle.std.specs.declared.option.Option.the-variants.{Some, None}
 use Rattle.snapshot.specs.declared.fault.Refusal.{Refusal}
@@ -36,16 +36,16 @@ numberOf WrongMark = 19
 numberOf WrongLastByte = 20
 numberOf Unlawful = 21
 
--- all refusals, counted from 1
+-- all refusals in the order of their numbers, which count from 1
 abbrev pub refusals : List Refusal
 refusals =
     OutOfRange ∷ PlaceOccupied ∷ NotOpen ∷ SameLeg ∷ TooManyLegs ∷ IntervalsApart ∷ WriteSetFull ∷ ReadingsFull
     ∷ AnotherLegOpen ∷ TooShort ∷ UnfitWrites ∷ ClockTooHigh ∷ NoTimeLeft ∷ CapacityExceeded ∷ VersionGone ∷ NoSuchNotice
     ∷ UnfitMemory ∷ AccountCut ∷ WrongMark ∷ WrongLastByte ∷ Unlawful ∷ []
 
--- a refusal stands in the list at its number, so no two have the same and none of 1 to 21 is left out
-abbrev pub numbered : Refusal → ℕ → Type 0
-numbered r n = (d : Refusal) → getD (OutOfRange ∷ refusals) n d ≡ r
+-- a refusal stands in that list at its number, so that no two have the same
+abbrev pub Numbered : Refusal → ℕ → Type 0
+Numbered r n = (1 ≤ n) × ((d : Refusal) → getD refusals (n - 1) d ≡ r)
 
 abbrev pub notNamed : ℕ
 notNamed = 255

@@ -1,6 +1,6 @@
 // Why a call is refused: the refusal with its number, and the fault that says where it arose.
 ghost use mathlib.Core.Path.{_≡_};
-ghost use Rattle.snapshot.specs.Refusals.{numberOf, numbered, unnamed, bookFault, ownFault, aroundStore};
+ghost use Rattle.snapshot.specs.Refusals.{Numbered, numberOf, unnamed, bookFault, ownFault, aroundStore};
 
 // The reasons for which a call is refused, in the order of their numbers.
 #[derive(Clone, Copy, PartialEq, Eq, Debug)]
@@ -32,7 +32,7 @@ impl Refusal {
     // The refusal's number, 1 to 21.
     pub fn number(self) -> u8
         ensures value { λ r. ⌜ r ≡ numberOf self ⌝ }
-        ensures own { λ r. ⌜ numbered self r ⌝ }
+        ensures own { λ r. ⌜ Numbered self r ⌝ }
     {
         match self {
             Refusal::OutOfRange => 1,

@@ -4,6 +4,7 @@ use lib.ListN.{getD}
 use lib.Seq.{take-all}
 use Rattle.std.proofs.shelf.Sums.{folded-more}
 use Rattle.book.specs.Bytes.{exclusiveOr}
+use Rattle.book.proofs.Changes.{one-change}
 use Rattle.book.proofs.sum.last_byte.Needs as need
 
 pub loop-byte-again : need.loop-byte-again
@@ -13,4 +14,8 @@ loop-byte-again c =
     ap (λ s. bitXor s (getD body i 0)) (c .loop-byte .inv) ∙ sym (folded-more bitXor 0 body i 0 (c .loop-byte-test .taken))
 
 pub returns : need.returns
-returns c = c .loop-byte .inv ∙ ap exclusiveOr (take-all _ _ (c .loop-byte-test .left))
+returns c =
+    record {
+      value = c .loop-byte .inv ∙ ap exclusiveOr (take-all _ _ (c .loop-byte-test .left));
+      tells = one-change (c .args .body .now);
+    }

@@ -14,4 +14,4 @@ returns c =
     (c .put-all-place .ensures .place)
     (c .put-all-last .ensures .bytes)
     (c .put-all-last .ensures .place)
-    (c .last-byte-sum .ensures)
+    (c .last-byte-sum .ensures .value)
