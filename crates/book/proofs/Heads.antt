@@ -1,5 +1,4 @@
 -- What the reader answers with long enough lists: an account that stands there, or the reason why none does.
-use mathlib.Core.Bool.{true, false}
 use mathlib.Core.List.{List, _++_}
 use mathlib.Core.Path.{_≡_, refl, sym, ap, subst, _∙_}
 use Prim.Native.Nat.{ℕ, _+_, _≤_, _<_}

@@ -1,17 +1,14 @@
 -- What follows from what the reader answers.
-use mathlib.Core.Bool.{Bool, true, false, _&&_, cond}
 use mathlib.Core.List.{List, _++_}
-use mathlib.Core.Path.{_≡_, refl, sym, ap, subst, _∙_}
+use mathlib.Core.Path.{_≡_, refl, sym, ap, _∙_}
 use Prim.Native.Nat.{ℕ, _+_, _*_, _≤_, _<_}
 use native.Mathlib.Omega.{arith}
-use lib.Dec.{leb}
-use lib.ListN.{length, getD, take, drop}
+use lib.ListN.{length, getD, drop}
 use Rattle.std.proofs.shelf.Elements.{all-drop, all-from-getD, all-take}
 use Rattle.std.proofs.shelf.Lists.{drop-drop, length-append, length-drop, take-at}
 use Rattle.std.proofs.shelf.Ways.{tells}
 use Rattle.std.specs.declared.result.Result.{Result}
 use Rattle.std.specs.declared.result.Result.the-variants.{Ok, Err}
-use Rattle.std.specs.shelf.Lists.{All}
 use Rattle.snapshot.specs.Accounts.{Account, accountOf, headOf}
 use Rattle.snapshot.specs.declared.account.AccountHead.{AccountHead}
 use Rattle.snapshot.specs.declared.account.ChainReading.{ChainReading}

@@ -1,13 +1,13 @@
 -- What the writer answers, and that what it wrote reads back at any place of a book.
-use mathlib.Core.Bool.{true, false, _&&_}
+use mathlib.Core.Bool.{true}
 use mathlib.Core.List.{List, [], _∷_, _++_}
 use mathlib.Core.Path.{_≡_, refl, sym, ap, _∙_}
 use Prim.Native.Nat.{ℕ, _+_, _-_, _*_, _≤_, _<_}
 use native.Mathlib.Nat.{sub-zero}
 use native.Mathlib.Omega.{arith}
-use lib.ListN.{length, take, drop, set}
+use lib.ListN.{length, take, set}
 use Rattle.std.proofs.shelf.Lists.{append-assoc, drop-at, take-at}
-use Rattle.std.proofs.shelf.Tests.{le-leb, lt-leb, and-from}
+use Rattle.std.proofs.shelf.Tests.{le-leb, lt-leb}
 use Rattle.std.specs.Joined.{joined}
 use Rattle.std.specs.declared.result.Result.the-variants.{Ok, Err}
 use Rattle.snapshot.specs.Accounts.{Account, lawful}

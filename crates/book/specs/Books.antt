@@ -50,6 +50,12 @@ pub record Listed (book : List ℕ) (heads : List AccountHead) (ending : Ending)
   pub listed : heads ≡ map headOf accounts
   pub ends : Ends book (joined bytesOf accounts) ending
 
+-- the list after the reading is the list before it with the listing behind
+pub record ListedBehind (before after : List AccountHead) (book : List ℕ) (ending : Ending) : Type 0 where
+  pub heads : List AccountHead
+  pub behind : after ≡ before ++ heads
+  pub listed : Listed book heads ending
+
 -- The text of a listing.
 
 abbrev pub lineBreak : List ℕ

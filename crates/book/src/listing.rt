@@ -1,9 +1,14 @@
 // The reading of a whole book, and the text that lists its accounts.
+ghost use mathlib.Core.Bool.{true};
 ghost use mathlib.Core.Path.{_≡_};
+ghost use Prim.Native.Nat.{_+_, _/_, _≤_};
+ghost use lib.ListN.{length};
 ghost use Rattle.std.specs.Of.String.{string-bytes};
-ghost use Rattle.std.specs.Of.Vec.{vec-items};
+ghost use Rattle.std.specs.Of.Vec.{vec-cap, vec-items, vec-len};
+ghost use Rattle.std.specs.Results.{isOk};
 ghost use Rattle.std.specs.Vec.{made};
-ghost use Rattle.book.specs.Books.{Listed, StandsOrRefused, endingLine, listingText};
+ghost use Rattle.book.specs.Books.{ListedBehind, StandsOrRefused, endingLine, listingText};
+ghost use Rattle.book.specs.Format.{sizeOf};
 use crate::reader::AccountAt;
 use crate::reader::read_account;
 use snapshot::account::AccountHead;
@@ -25,19 +30,13 @@ pub enum Ending {
     Bad(BookFault),
 }
 
-// The five numbers of each account that was read, in order, and where the reading ended.
-#[derive(Drop)]
-pub struct Listing {
-    pub heads: Vec<AccountHead>,
-    pub ending: Ending,
-}
-
-// Reads a book from its first byte: account after account, to its end or to the first that is refused. Fails only for
-// want of memory.
-pub fn read_book(heap: Global, book: &[u8]) -> Result<Listing, AllocError>
-    ensures { λ r. ⌜ made r (λ l. Listed (now (book .entry)) (vec-items (l .heads)) (l .ending)) ⌝ }
+// Reads a book from its first byte: account after account, to its end or to the first that is refused. Adds the five
+// numbers of each account to the list, and answers where the reading ended. Fails only for want of memory, and never
+// where the list has room for as many accounts as a book of that length can have.
+pub fn read_book(book: &[u8], heads: &mut Vec<AccountHead>) -> Result<Ending, AllocError>
+    ensures listed { λ r. ⌜ made r (λ e. ListedBehind (vec-items (now (heads .entry))) (vec-items (now (heads .exit))) (now (book .entry)) e) ⌝ }
+    ensures succeeds { λ r. ⌜ (vec-len (now (heads .entry)) + length (now (book .entry)) / sizeOf 0 0 ≤ vec-cap (now (heads .entry)) → isOk r ≡ true) ⌝ }
 {
-    let mut heads = Vec::new(heap);
     let mut start = 0;
     while start < book.len() {
         match read_head(book, start) {
@@ -45,16 +44,10 @@ pub fn read_book(heap: Global, book: &[u8]) -> Result<Listing, AllocError>
                 heads.push(read.head)?;
                 start = read.end;
             }
-            Err(fault) => {
-                let ending = Ending::Bad(fault);
-                return Ok(Listing { heads, ending });
-            }
+            Err(fault) => return Ok(Ending::Bad(fault)),
         }
     }
-    Ok(Listing {
-        heads,
-        ending: Ending::Whole,
-    })
+    Ok(Ending::Whole)
 }
 
 // The five numbers of the account at this place, and the place after it.
@@ -66,21 +59,23 @@ fn read_head(book: &[u8], start: usize) -> Result<AccountAt, BookFault>
     read_account(book, start, &mut readings, &mut writes)
 }
 
-impl Listing {
-    // A line for each account with its five numbers; then `end` and the number of accounts, or `bad`, the number of the
-    // refusal and the place of the refused account. Fails only for want of memory.
-    pub fn text(&self, heap: Global) -> Result<String, AllocError>
-        ensures { λ r. ⌜ made r (λ t. string-bytes t ≡ listingText (vec-items (now (self .entry) .heads)) (now (self .entry) .ending)) ⌝ }
-    {
-        let mut text = String::new(heap);
-        for head in self.heads.iter() {
-            let line = format!(heap, "{head}\n")?;
-            text.push_str(line.as_str())?;
-        }
-        let last = ending_line(heap, self.heads.len(), self.ending)?;
-        text.push_str(last.as_str())?;
-        Ok(text)
+// A line for each account with its five numbers; then `end` and the number of accounts, or `bad`, the number of the
+// refusal and the place of the refused account. Fails only for want of memory.
+pub fn listing_text(
+    heap: Global,
+    heads: &[AccountHead],
+    ending: Ending,
+) -> Result<String, AllocError>
+    ensures { λ r. ⌜ made r (λ t. string-bytes t ≡ listingText (now (heads .entry)) ending) ⌝ }
+{
+    let mut text = String::new(heap);
+    for head in heads {
+        let line = format!(heap, "{head}\n")?;
+        text.push_str(line.as_str())?;
     }
+    let last = ending_line(heap, heads.len(), ending)?;
+    text.push_str(last.as_str())?;
+    Ok(text)
 }
 
 fn ending_line(heap: Global, count: usize, ending: Ending) -> Result<String, AllocError>

@@ -3,6 +3,7 @@
 #[cfg(test)]
 mod tests;
 
+use book::listing::listing_text;
 use book::listing::read_book;
 use std::error::AnyError;
 use std::fs;
@@ -11,7 +12,9 @@ const BOOKS: usize = 24;
 
 fn list(rt: &LibcRuntime, name: &str) -> Result<(), AnyError> {
     let bytes = fs::read(rt, name)?;
-    let text = read_book(rt.alloc(), bytes.as_slice())?.text(rt.alloc())?;
+    let mut heads = Vec::new(rt.alloc());
+    let ending = read_book(bytes.as_slice(), &mut heads)?;
+    let text = listing_text(rt.alloc(), heads.as_slice(), ending)?;
     print!(rt, "{name}\n{text}")?;
     Ok(())
 }

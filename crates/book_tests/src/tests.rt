@@ -1,4 +1,5 @@
 // Tests of the book's writer and reader: what is written, every refusal with its number and place, and the order of checks.
+use book::listing::listing_text;
 use book::listing::read_book;
 use book::reader::read_account;
 use book::sum::last_byte;
@@ -601,7 +602,9 @@ fn last_byte_is_the_exclusive_or() -> Result<(), Fail> {
 }
 
 fn lists(heap: std::alloc::Global, book: &[u8], text: &str) -> Result<(), Fail> {
-    check_eq(read_book(heap, book)?.text(heap)?.as_str(), text)
+    let mut heads = Vec::new(heap);
+    let ending = read_book(book, &mut heads)?;
+    check_eq(listing_text(heap, heads.as_slice(), ending)?.as_str(), text)
 }
 
 #[test]

@@ -1,4 +1,5 @@
 // Prints the accounts of the book on standard input, of which the first 65,536 bytes count.
+use book::listing::listing_text;
 use book::listing::read_book;
 use std::error::AnyError;
 use std::io::Read;
@@ -9,8 +10,9 @@ fn run(rt: &LibcRuntime) -> Result<(), AnyError> {
     let heap = rt.alloc();
     let mut bytes = Vec::new(heap);
     let _ = rt.stdin().take(MOST_BYTES).read_to_end(&mut bytes)?;
-    let listing = read_book(heap, bytes.as_slice())?;
-    let text = listing.text(heap)?;
+    let mut heads = Vec::new(heap);
+    let ending = read_book(bytes.as_slice(), &mut heads)?;
+    let text = listing_text(heap, heads.as_slice(), ending)?;
     rt.print(text)?;
     Ok(())
 }

@@ -1,5 +1,5 @@
 -- The rules of a lawful account, one by one.
-use mathlib.Core.Bool.{Bool, true, _&&_}
+use mathlib.Core.Bool.{true, _&&_}
 use mathlib.Core.Path.{_≡_}
 use Rattle.std.proofs.shelf.Tests.{and-parts}
 use Rattle.snapshot.specs.Accounts.{Account, lawful, fewEnough, all, soundReading, risingFrom, agreedEnds, soundTimestamp}

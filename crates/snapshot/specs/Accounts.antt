@@ -1,7 +1,6 @@
 -- The account of a committed chain, and when it is lawful.
-use mathlib.Core.Bool.{Bool, true, _&&_, cond}
+use mathlib.Core.Bool.{Bool, true, _&&_}
 use mathlib.Core.List.{List, [], _∷_}
-use mathlib.Core.Path.{_≡_}
 use Prim.Native.Nat.{ℕ, suc, min, max, _≤_}
 use lib.Dec.{leb, ltb, eqb}
 use lib.ListN.{length, take}

@@ -1,4 +1,3 @@
-use mathlib.Core.Bool.{Bool}
 use lib.Dec.{ltb}
 use Rattle.std.proofs.shelf.Tests.{lt-ltb, le-ltb}
 use Rattle.snapshot.specs.Accounts.{zeroReading}

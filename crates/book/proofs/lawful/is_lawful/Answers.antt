@@ -1,9 +1,8 @@
 -- The five answers together are the rule; each true one brings what it means.
-use mathlib.Core.Bool.{Bool, true, _&&_}
+use mathlib.Core.Bool.{Bool, _&&_}
 use mathlib.Core.Path.{_≡_, sym, _∙_}
-use Rattle.snapshot.specs.Accounts.{lawful}
 use Rattle.snapshot.proofs.Agreement.{ends-agree}
-use Rattle.snapshot.proofs.Lawfuls.{Rules, rules}
+use Rattle.snapshot.proofs.Lawfuls.{rules}
 use Rattle.book.specs.Format.{whole}
 use Rattle.book.proofs.lawful.is_lawful.Needs as need
 

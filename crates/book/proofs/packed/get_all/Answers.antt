@@ -4,7 +4,7 @@ use mathlib.Core.Path.{_≡_, sym, ap, _∙_}
 use native.Mathlib.Numerals.{add-one}
 use native.Mathlib.Omega.{arith}
 use Prim.Native.Nat.{_<_, _*_}
-use lib.ListN.{length, take, drop}
+use lib.ListN.{length, drop}
 use Rattle.std.proofs.shelf.Lists.{take-all, take-more-set, drop-drop}
 use Rattle.book.specs.Bytes.{recordsFrom}
 use Rattle.book.proofs.Packing.{within, next-place, records-next}

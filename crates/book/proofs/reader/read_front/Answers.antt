@@ -1,10 +1,10 @@
 -- The parts that are read make up the account that the bytes tell.
-use mathlib.Core.Path.{_≡_, refl, sym, ap, _∙_}
+use mathlib.Core.Path.{_≡_, sym, ap, _∙_}
 use native.Mathlib.Omega.{arith}
 use Prim.Native.Nat.{_+_, _-_, _*_}
 use lib.ListN.{length, drop, length-take}
 use Rattle.std.proofs.shelf.Results.{err-from-errBy}
-use Rattle.std.specs.declared.result.Result.the-variants.{Ok, Err}
+use Rattle.std.specs.declared.result.Result.the-variants.{Err}
 use Rattle.snapshot.specs.Intervals.{fromTo}
 use Rattle.book.specs.Bytes.{overwritten, recordsFrom}
 use Rattle.book.specs.Calls.{frontFor, headed, readingsOf, writesOf}
