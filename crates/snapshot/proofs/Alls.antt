@@ -1,12 +1,11 @@
 -- A test of every element, walked from the front: what is left decides the whole.
 use mathlib.Core.Bool.{Bool, true, false, _&&_}
-use mathlib.Core.List.{List, [], _∷_}
+use mathlib.Core.List.{List}
 use mathlib.Core.Path.{_≡_, sym, ap, _∙_}
 use Prim.Native.Nat.{ℕ, _+_, _≤_, _<_}
 use lib.ListN.{length, getD, drop}
 use Rattle.std.proofs.shelf.Lists.{at-drop-more, at-drop-all}
-use Rattle.std.proofs.shelf.Tests.{and-left, and-parts}
-use Rattle.std.specs.shelf.Lists.{All}
+use Rattle.std.proofs.shelf.Tests.{and-left}
 use Rattle.snapshot.specs.Accounts.{all}
 
 module _ {X : Type 0} (test : X → Bool) (xs : List X) where
@@ -23,8 +22,3 @@ module _ {X : Type 0} (test : X → Bool) (xs : List X) where
 
   pub all-ends : (i : ℕ) → length xs ≤ i → Left i → true ≡ all test xs
   all-ends i past left = sym (at-drop-all (all test) xs i past) ∙ left
-
--- a test that every element passes, as a fact of every element
-pub all-holds : {X : Type 0} (test : X → Bool) (P : X → Type 0) → ((x : X) → test x ≡ true → P x) → (xs : List X) → all test xs ≡ true → All P xs
-all-holds test P holds [] e = tt
-all-holds test P holds (x ∷ xs) e = let both = and-parts (test x) (all test xs) e in (holds x (both .0), all-holds test P holds xs (both .1))
