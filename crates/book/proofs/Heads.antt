@@ -4,7 +4,6 @@ use mathlib.Core.Path.{_≡_, refl, sym, ap, subst, _∙_}
 use Prim.Native.Nat.{ℕ, _+_, _≤_, _<_}
 use native.Mathlib.Omega.{arith}
 use lib.ListN.{length, getD, drop}
-use Rattle.std.proofs.shelf.Elements.{all-drop, all-from-getD, all-take}
 use Rattle.std.proofs.shelf.Lists.{drop-drop}
 use Rattle.std.proofs.shelf.Tests.{le-leb}
 use Rattle.std.specs.declared.result.Result.{Result}
@@ -16,14 +15,14 @@ use Rattle.book.specs.Books.{Stands, StandsOrRefused}
 use Rattle.book.specs.Calls.{faulted, frontFor, located, readAt}
 use Rattle.book.specs.Format.{bytesOf, frontAccount}
 use Rattle.book.specs.declared.reader.AccountAt.{AccountAt}
-use Rattle.book.proofs.RoundTrip.{accepted-is-written, bounds}
+use Rattle.book.proofs.Reading.{accepted-at}
+use Rattle.book.proofs.RoundTrip.{bounds}
 
 module _ (book : List ℕ) (small : (i : ℕ) → getD book i 0 < 256) (start n m : ℕ) (rs : 32 ≤ n) (ws : 8 ≤ m) where
   found : (x : Result Account Refusal) → frontAccount (drop start book) ≡ x → StandsOrRefused book start (faulted start (located start (frontFor n m x)))
   found (Err e) front = record { fault = refl; reason = front }
   found (Ok a) front =
-      let bytes = all-take (λ b. b < 256) _ (drop start book) (all-drop (λ b. b < 256) start book (all-from-getD (λ b. b < 256) book 0 (λ i _. small i))) in
-      let written = accepted-is-written (drop start book) bytes a front in
+      let written = accepted-at book small start a front in
       let counts = bounds a (written .lawfully) .counts in
       let room : frontFor n m (Ok a) ≡ Ok a = rw (le-leb (length (a .readings)) n (omega (arith, counts .0)), le-leb (length (a .writes)) m (omega (arith, counts .1))) in
       let stands : Stands book start (record { head = _; end = start + length (bytesOf a) }) =

@@ -48,6 +48,12 @@ front-ok : (n m : ℕ) (r : Result Account Refusal) (a : Account) → frontFor n
 front-ok n m (Ok b) a e = grind (arith, tells)
 front-ok n m (Err x) a e = let z : _≡_ {A = ℕ} 0 1 = cc in absurd (omega arith)
 
+-- an account that is read at a place of a book of bytes is written there
+pub accepted-at : (book : List ℕ) → ((i : ℕ) → getD book i 0 < 256) → (start : ℕ) (a : Account) → frontAccount (drop start book) ≡ Ok a → IsWritten (drop start book) a
+accepted-at book small start a front =
+    let bytes = all-from-getD (λ b. b < 256) book 0 (λ i _. small i) in
+    accepted-is-written (drop start book) (all-take (λ b. b < 256) _ _ (all-drop (λ b. b < 256) start book bytes)) a front
+
 -- the account that the answered head stands for
 pub record Read (book : List ℕ) (start n m : ℕ) (h : AccountHead) : Type 0 where
   pub account : Account
@@ -59,12 +65,11 @@ pub read-ok : (book : List ℕ) (start n m : ℕ) (h : AccountHead) {bs : List �
 read-ok book start n m h small there e =
     let found = headed-ok (readAt book start n m) h (e ∙ ap (λ bs. headed (frontFor n m (frontAccount bs))) there) in
     let front = front-ok n m (frontAccount (drop start book)) (found .0) (found .1) in
-    let bytes = all-from-getD (λ b. b < 256) book 0 (λ i _. small i) in
     record {
       account = found .0;
       was = found .1;
       head = found .2;
-      written = accepted-is-written (drop start book) (all-take (λ b. b < 256) _ _ (all-drop (λ b. b < 256) start book bytes)) (found .0) front;
+      written = accepted-at book small start (found .0) front;
     }
 
 module _ {book : List ℕ} {start n m : ℕ} {h : AccountHead} (r : Read book start n m h) where

@@ -31,8 +31,8 @@ pub enum Ending {
 }
 
 // Reads a book from its first byte: account after account, to its end or to the first that is refused. Adds the five
-// numbers of each account to the list, and answers where the reading ended. Fails only for want of memory, and never
-// where the list has room for as many accounts as a book of that length can have.
+// numbers of each account to the list, and answers where the reading ended. The only error is want of memory, and it does
+// not come where the list has room for as many accounts as a book of that length can have.
 pub fn read_book(book: &[u8], heads: &mut Vec<AccountHead>) -> Result<Ending, AllocError>
     ensures listed { λ r. ⌜ made r (λ e. ListedBehind (vec-items (now (heads .entry))) (vec-items (now (heads .exit))) (now (book .entry)) e) ⌝ }
     ensures succeeds { λ r. ⌜ (vec-len (now (heads .entry)) + length (now (book .entry)) / sizeOf 0 0 ≤ vec-cap (now (heads .entry)) → isOk r ≡ true) ⌝ }
@@ -60,7 +60,7 @@ fn read_head(book: &[u8], start: usize) -> Result<AccountAt, BookFault>
 }
 
 // A line for each account with its five numbers; then `end` and the number of accounts, or `bad`, the number of the
-// refusal and the place of the refused account. Fails only for want of memory.
+// refusal and the place of the refused account. The only error is want of memory.
 pub fn listing_text(
     heap: Global,
     heads: &[AccountHead],

@@ -24,146 +24,24 @@ use std::test::*;
 
 const OPEN_END: u64 = 281_474_976_710_656;
 
-const SHORTEST: [u8; 29] = [
-    0xC3,
-    0x3C,
-    0,
-    0,
-    0,
-    0,
-    0,
-    0,
-    0,
-    0,
-    0,
-    0,
-    0,
-    1,
-    0,
-    0,
-    0,
-    0,
-    0,
-    0,
-    0,
-    0,
-    0,
-    0,
-    0,
-    0,
-    0,
-    0,
-    0xFE,
-];
+// The bytes of the account with no readings and no writes: mark and counts, low, high, timestamp, last byte.
+const SHORTEST: [u8; 29] = *b"\xC3\x3C\x00\x00\
+    \x00\x00\x00\x00\x00\x00\x00\x00\
+    \x00\x01\x00\x00\x00\x00\x00\x00\
+    \x00\x00\x00\x00\x00\x00\x00\x00\
+    \xFE";
 
-// The bytes of `lawful_sample`, as the format lays them out.
-const SAMPLE_BYTES: [u8; 105] = [
-    0xC3,
-    0x3C,
-    3,
-    2, // mark, counts
-    0,
-    0,
-    0,
-    0,
-    0,
-    0,
-    0,
-    20, // low
-    0,
-    0,
-    0,
-    0,
-    0,
-    0,
-    0,
-    30, // high
-    0,
-    0,
-    0,
-    0,
-    0,
-    0,
-    0,
-    51, // timestamp
-    3,
-    7,
-    0,
-    0,
-    0,
-    1,
-    0,
-    0,
-    0,
-    0,
-    0,
-    0,
-    0,
-    10,
-    0,
-    0,
-    0,
-    0,
-    0,
-    0,
-    0,
-    40, // a reading
-    1,
-    9,
-    255,
-    255,
-    255,
-    255,
-    0,
-    0,
-    0,
-    0,
-    0,
-    0,
-    0,
-    20,
-    0,
-    0,
-    0,
-    0,
-    0,
-    0,
-    0,
-    50, // a reading
-    7,
-    63,
-    0,
-    0,
-    1,
-    0,
-    0,
-    0,
-    0,
-    0,
-    0,
-    0,
-    0,
-    15,
-    0,
-    0,
-    0,
-    0,
-    0,
-    0,
-    0,
-    30, // a reading
-    2,
-    0,
-    0,
-    0,
-    5, // a write
-    40,
-    0,
-    0,
-    0,
-    6, // a write
-    0xCF,
-];
+// The bytes of `lawful_sample`: mark and counts, low, high, timestamp, three readings, two writes, last byte.
+const SAMPLE_BYTES: [u8; 105] = *b"\xC3\x3C\x03\x02\
+    \x00\x00\x00\x00\x00\x00\x00\x14\
+    \x00\x00\x00\x00\x00\x00\x00\x1E\
+    \x00\x00\x00\x00\x00\x00\x00\x33\
+    \x03\x07\x00\x00\x00\x01\x00\x00\x00\x00\x00\x00\x00\x0A\x00\x00\x00\x00\x00\x00\x00\x28\
+    \x01\x09\xFF\xFF\xFF\xFF\x00\x00\x00\x00\x00\x00\x00\x14\x00\x00\x00\x00\x00\x00\x00\x32\
+    \x07\x3F\x00\x00\x01\x00\x00\x00\x00\x00\x00\x00\x00\x0F\x00\x00\x00\x00\x00\x00\x00\x1E\
+    \x02\x00\x00\x00\x05\
+    \x28\x00\x00\x00\x06\
+    \xCF";
 
 // A lawful account of three readings and two writes.
 #[derive(Clone, Copy)]

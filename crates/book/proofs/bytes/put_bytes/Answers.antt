@@ -1,3 +1,4 @@
+-- The part that is copied over is the one that begins at the place.
 use mathlib.Core.List.{_++_}
 use mathlib.Core.Path.{_∙_, ap}
 use native.Mathlib.Omega.{arith}

@@ -1,3 +1,4 @@
+-- The eight bytes that are read make up the number at that place.
 use mathlib.Core.Path.{_∙_}
 use Rattle.book.proofs.Decoding.{eight-at}
 use Rattle.book.proofs.bytes.u64_at.Needs as need

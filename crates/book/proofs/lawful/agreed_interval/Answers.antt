@@ -1,3 +1,4 @@
+-- One reading more is one narrowing more.
 use mathlib.Core.Path.{sym, ap, _∙_}
 use Prim.Native.Nat.{min, max, _+_}
 use lib.ListN.{getD, take}

@@ -1,3 +1,4 @@
+-- The interval goes from the greatest timestamp to the least promise of the readings so far.
 use mathlib.Core.Path.{_≡_}
 use lib.ListN.{take}
 use Rattle.snapshot.specs.Accounts.{greatestTimestamp, leastPromise}

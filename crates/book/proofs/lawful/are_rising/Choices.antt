@@ -1,3 +1,4 @@
+-- What is left of the writes, from the least key that may follow, decides the whole, and the values so far fit.
 use mathlib.Core.Path.{_≡_}
 use Prim.Native.Nat.{_^_, _<_}
 use lib.ListN.{take, drop}

@@ -1,3 +1,4 @@
+-- The first unsound reading decides; each one that was looked at has a value that fits.
 use mathlib.Core.Path.{sym}
 use Prim.Native.Nat.{_^_, _<_}
 use Rattle.std.proofs.shelf.Elements.{all-more}

@@ -1,3 +1,4 @@
+-- What is left of the readings decides the whole, and the values so far fit.
 use Prim.Native.Nat.{_^_, _<_}
 use lib.ListN.{take}
 use Rattle.std.specs.shelf.Lists.{All}

@@ -1,3 +1,4 @@
+-- The first promise that is not before the timestamp decides; past the last none does.
 use lib.Dec.{ltb}
 use Rattle.std.proofs.shelf.Tests.{lt-ltb, le-ltb}
 use Rattle.snapshot.specs.Accounts.{zeroReading}

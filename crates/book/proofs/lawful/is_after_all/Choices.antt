@@ -1,3 +1,4 @@
+-- What is left of the readings decides the whole.
 use lib.Dec.{ltb}
 use Rattle.snapshot.proofs.Alls.{Left}
 use Rattle.book.proofs.lawful.is_after_all.Given as given

@@ -1,3 +1,4 @@
+-- The text has the lines of the heads so far.
 use mathlib.Core.Path.{_≡_}
 use lib.ListN.{take}
 use Rattle.std.specs.Joined.{joined}

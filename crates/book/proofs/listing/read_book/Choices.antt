@@ -1,3 +1,4 @@
+-- What was added is the listing so far, and the list has not lost room; each turn goes on in the book.
 use Prim.Native.Nat.{_-_, _≤_}
 use lib.ListN.{length}
 use Rattle.std.specs.Of.Vec.{vec-cap, vec-items}

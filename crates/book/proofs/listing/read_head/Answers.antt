@@ -1,3 +1,4 @@
+-- The lists are long enough for every account, so the answer is the book's.
 use native.Mathlib.Omega.{arith}
 use Rattle.book.proofs.Heads.{stands-or-refused}
 use Rattle.book.proofs.listing.read_head.Needs as need

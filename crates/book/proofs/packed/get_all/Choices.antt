@@ -1,3 +1,4 @@
+-- The list begins with the records so far, and the next place is behind them.
 use mathlib.Core.Path.{_≡_}
 use Prim.Native.Nat.{_+_, _*_}
 use lib.ListN.{take, drop}

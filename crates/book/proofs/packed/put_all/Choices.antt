@@ -1,3 +1,4 @@
+-- The records so far are placed one after another, and the next place is behind them.
 use mathlib.Core.Path.{_≡_}
 use Prim.Native.Nat.{_+_, _*_}
 use lib.ListN.{take}

@@ -1,3 +1,4 @@
+-- The bytes from a place on are the rest of the list, and past its end there are none.
 use mathlib.Core.Path.{sym}
 use native.Mathlib.Omega.{arith}
 use Rattle.std.proofs.shelf.Lists.{drop-all, take-rest}

@@ -1,3 +1,4 @@
+-- One byte more is one exclusive-or more.
 use mathlib.Core.Path.{sym, ap, _∙_}
 use lib.Bits.{bitXor}
 use lib.ListN.{getD}

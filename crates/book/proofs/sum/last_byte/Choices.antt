@@ -1,3 +1,4 @@
+-- The sum is the exclusive-or of the bytes so far.
 use mathlib.Core.Path.{_≡_}
 use lib.ListN.{take}
 use Rattle.book.specs.Bytes.{exclusiveOr}

@@ -1,3 +1,4 @@
+-- Head, readings, writes and last byte, each placed where the one before ends.
 use native.Mathlib.Omega.{arith}
 use Rattle.book.specs.Format.{whole}
 use Rattle.book.proofs.RoundTrip.{takes-its-size}

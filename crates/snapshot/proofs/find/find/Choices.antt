@@ -1,3 +1,4 @@
+-- No record before the place has the key.
 use Rattle.snapshot.specs.Finding.{NoneBelow}
 use Rattle.snapshot.proofs.find.find.Given as given
 

@@ -1,3 +1,4 @@
+-- Each field stands as far behind the place as the format says.
 use Rattle.book.proofs.Decoding.{number-from, byte-from, first-from}
 use Rattle.book.proofs.packed.ReadingPacked.get.Needs as need
 

@@ -1,3 +1,4 @@
+-- Two placings, one after the other.
 use mathlib.Core.List.{[], _∷_}
 use mathlib.Core.Path.{refl}
 use Prim.Native.Nat.{_+_}
