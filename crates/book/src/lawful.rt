@@ -2,10 +2,9 @@
 ghost use mathlib.Core.Bool.{true, _&&_};
 ghost use mathlib.Core.Path.{_≡_};
 ghost use Prim.Native.Nat.{_<_, _^_};
-ghost use lib.Dec.{leb, ltb};
+ghost use lib.Dec.{ltb};
 ghost use Rattle.std.specs.shelf.Lists.{All};
 ghost use Rattle.snapshot.specs.Accounts.{Agrees, agreedEnds, all, fewEnough, lawful, soundReading, soundTimestamp, risingFrom, greatestTimestamp, leastPromise};
-ghost use Rattle.snapshot.specs.Limits.{isKey};
 ghost use Rattle.snapshot.specs.Intervals.{fromTo};
 ghost use Rattle.book.specs.Theorems.{ValuesFit};
 ghost use Rattle.book.specs.Format.{whole};
@@ -18,6 +17,7 @@ use snapshot::limits::WRITE_KEYS;
 use snapshot::limits::is_key;
 use snapshot::limits::is_timestamp;
 use snapshot::limits::is_worker;
+use snapshot::writes::are_rising;
 
 // Is the account with these ends, timestamp, readings and writes lawful?
 pub fn is_lawful(
@@ -65,29 +65,6 @@ fn is_sound(made: ChainReading) -> bool
         && is_key(made.key)
         && made.reading.timestamp <= made.reading.promise
         && made.reading.promise < OPEN_END
-}
-
-// Are the writes' keys in range and strictly rising?
-fn are_rising(writes: &[Write]) -> bool
-    ensures value { λ r. ⌜ r ≡ risingFrom 0 (now (writes .entry)) ⌝ }
-    ensures fits { λ r. ⌜ (r ≡ true → All (λ w. w .value < 2 ^ 32) (now (writes .entry))) ⌝ }
-{
-    let mut least = 0;
-    for write in writes {
-        if !is_from(*write, least) {
-            return false;
-        }
-        least = write.key + 1;
-    }
-    true
-}
-
-// Is the write's key in range, and this one or above?
-fn is_from(write: Write, least: u8) -> bool
-    ensures value { λ r. ⌜ r ≡ (leb least (write .key) && isKey (write .key)) ⌝ }
-    ensures fits { λ _. ⌜ write .value < 2 ^ 32 ⌝ }
-{
-    least <= write.key && is_key(write.key)
 }
 
 // Does the interval go from the greatest timestamp to the least promise, and is it not empty?

@@ -50,8 +50,13 @@ Numbered r n = (1 ≤ n) × ((d : Refusal) → getD refusals (n - 1) d ≡ r)
 abbrev pub notNamed : ℕ
 notNamed = 255
 
+-- the fault of a call that names a key and nothing else
+abbrev pub atKey : Refusal → Layer → ℕ → Fault
+atKey r l k = record { refusal = r; layer = l; place = notNamed; leg = notNamed; key = k }
+
+-- the fault of a call that names nothing
 abbrev pub unnamed : Refusal → Layer → Fault
-unnamed r l = record { refusal = r; layer = l; place = notNamed; leg = notNamed; key = notNamed }
+unnamed r l = atKey r l notNamed
 
 abbrev pub bookFault : Refusal → ℕ → BookFault
 bookFault r at = record { fault = unnamed r Book; start = at }

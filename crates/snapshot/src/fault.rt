@@ -1,6 +1,6 @@
 // Why a call is refused: the refusal with its number, and the fault that says where it arose.
 ghost use mathlib.Core.Path.{_≡_};
-ghost use Rattle.snapshot.specs.Refusals.{Numbered, numberOf, unnamed, bookFault, ownFault, aroundStore};
+ghost use Rattle.snapshot.specs.Refusals.{Numbered, numberOf, unnamed, atKey, bookFault, ownFault, aroundStore};
 
 // The reasons for which a call is refused, in the order of their numbers.
 #[derive(Clone, Copy, PartialEq, Eq, Debug)]
@@ -93,6 +93,19 @@ impl Fault {
             place: NOT_NAMED,
             leg: NOT_NAMED,
             key: NOT_NAMED,
+        }
+    }
+
+    // The fault of a call that names a key and nothing else.
+    pub fn at_key(refusal: Refusal, layer: Layer, key: u8) -> Fault
+        ensures { λ r. ⌜ r ≡ atKey refusal layer key ⌝ }
+    {
+        Fault {
+            refusal,
+            layer,
+            place: NOT_NAMED,
+            leg: NOT_NAMED,
+            key,
         }
     }
 }

@@ -5,3 +5,4 @@ pub mod find;
 pub mod interval;
 pub mod limits;
 pub mod worked;
+pub mod writes;

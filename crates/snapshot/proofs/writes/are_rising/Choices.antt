@@ -3,8 +3,8 @@ use mathlib.Core.Path.{_≡_}
 use Prim.Native.Nat.{_^_, _<_}
 use lib.ListN.{take, drop}
 use Rattle.std.specs.shelf.Lists.{All}
 use Rattle.snapshot.specs.Accounts.{risingFrom}
-use Rattle.book.proofs.lawful.are_rising.Given as given
+use Rattle.snapshot.proofs.writes.are_rising.Given as given
 
 abbrev pub Inv-loop-write : given.InvT-loop-write
 Inv-loop-write l =

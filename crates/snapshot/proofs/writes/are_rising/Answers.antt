@@ -4,9 +4,9 @@ use Prim.Native.Nat.{_^_, _<_}
 use Rattle.std.proofs.shelf.Elements.{all-more}
 use Rattle.std.proofs.shelf.Lists.{at-drop-all, take-all}
 use Rattle.std.proofs.shelf.Tests.{false≢true}
 use Rattle.snapshot.specs.Accounts.{risingFrom, zeroWrite}
 use Rattle.snapshot.proofs.Risings.{rising-fails, rising-passes}
-use Rattle.book.proofs.lawful.are_rising.Needs as need
+use Rattle.snapshot.proofs.writes.are_rising.Needs as need
 
 pub returns-then-not-is-from : need.returns-then-not-is-from
 returns-then-not-is-from c =

@@ -1,0 +1,5 @@
+pub mod Runs
+pub mod Versions
+pub mod Standing
+pub mod Keeping
+pub mod Writes

@@ -1,0 +1,11 @@
+pub mod Pushes
+pub mod Keys
+pub mod Looks
+pub mod Counting
+pub mod Dropping
+pub mod Adding
+pub mod Memory
+pub mod Layouts
+pub mod Tabling
+pub mod Sameness
+pub mod Changing

@@ -1,0 +1,4 @@
+pub mod Records
+pub mod PerKeys
+pub mod Tables
+pub mod Stores
