@@ -4,4 +4,3 @@ pub mod Intervals
 pub mod Accounts
 pub mod Shown
 pub mod Finding
-pub mod Worked

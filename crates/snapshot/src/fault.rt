@@ -87,13 +87,7 @@ impl Fault {
     pub fn unnamed(refusal: Refusal, layer: Layer) -> Fault
         ensures { λ r. ⌜ r ≡ unnamed refusal layer ⌝ }
     {
-        Fault {
-            refusal,
-            layer,
-            place: NOT_NAMED,
-            leg: NOT_NAMED,
-            key: NOT_NAMED,
-        }
+        Fault::at_key(refusal, layer, NOT_NAMED)
     }
 
     // The fault of a call that names a key and nothing else.

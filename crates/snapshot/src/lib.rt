@@ -4,5 +4,4 @@ pub mod fault;
 pub mod find;
 pub mod interval;
 pub mod limits;
-pub mod worked;
 pub mod writes;

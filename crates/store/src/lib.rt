@@ -3,3 +3,4 @@ pub mod calls;
 pub mod checks;
 pub mod traits;
 pub mod version;
+pub mod worked;

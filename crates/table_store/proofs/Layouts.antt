@@ -72,10 +72,10 @@ order-both (x ∷ xs) ys a b ahead =
 
 -- The versions of a key.
 
-cons-yes : (k : ℕ) (r : Record) (rs : List Record) → hasKey k r ≡ true → ofKey k (r ∷ rs) ≡ versionIn r ∷ ofKey k rs
+pub cons-yes : (k : ℕ) (r : Record) (rs : List Record) → hasKey k r ≡ true → ofKey k (r ∷ rs) ≡ versionIn r ∷ ofKey k rs
 cons-yes k r rs e = ap (λ b. map versionIn (cond b (r ∷ kept-by (hasKey k) rs) (kept-by (hasKey k) rs))) e
 
-cons-no : (k : ℕ) (r : Record) (rs : List Record) → hasKey k r ≡ false → ofKey k (r ∷ rs) ≡ ofKey k rs
+pub cons-no : (k : ℕ) (r : Record) (rs : List Record) → hasKey k r ≡ false → ofKey k (r ∷ rs) ≡ ofKey k rs
 cons-no k r rs e = ap (λ b. map versionIn (cond b (r ∷ kept-by (hasKey k) rs) (kept-by (hasKey k) rs))) e
 
 drop-some : (n : ℕ) (v : Version) (vs : List Version) → 0 < n → drop (n - 1) vs ≡ drop n (v ∷ vs)

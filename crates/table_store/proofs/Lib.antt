@@ -9,3 +9,4 @@ pub mod Layouts
 pub mod Tabling
 pub mod Sameness
 pub mod Changing
+pub mod Uniqueness

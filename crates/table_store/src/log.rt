@@ -17,7 +17,7 @@ use snapshot::account::Write;
 use snapshot::limits::KEYS;
 
 // The newest version of the key that is not later than the time, looked for from the newest end.
-pub fn newest_at<L: Records>(log: &L, key: u8, time: u64, last: u64) -> Option<Reading>
+pub(crate) fn newest_at<L: Records>(log: &L, key: u8, time: u64, last: u64) -> Option<Reading>
     ensures { λ r. ⌜ r ≡ newestAt time last (ofKey key (L·Records .records (now (log .entry)))) ⌝ }
 {
     let mut promise = last;
@@ -38,7 +38,7 @@ pub fn newest_at<L: Records>(log: &L, key: u8, time: u64, last: u64) -> Option<R
 }
 
 // How many versions the list has of each key.
-pub fn count_versions<L: Records>(log: &L) -> PerKey
+pub(crate) fn count_versions<L: Records>(log: &L) -> PerKey
     ensures { λ r. ⌜ ((k : ℕ) → numberFor r k ≡ perKey (λ j. length (ofKey j (L·Records .records (now (log .entry))))) k) ⌝ }
 {
     let mut counts = PerKey::none();
@@ -51,7 +51,7 @@ pub fn count_versions<L: Records>(log: &L) -> PerKey
 }
 
 // How many of its oldest versions each written key drops, so that it has no more than the depth once it is written.
-pub fn excess_versions<L: Records>(log: &L, writes: &[Write], depth: usize) -> PerKey
+pub(crate) fn excess_versions<L: Records>(log: &L, writes: &[Write], depth: usize) -> PerKey
     ensures { λ r. ⌜ ((k : ℕ) → numberFor r k ≡ perKey (λ j. excess depth (writtenTo j (now (writes .entry))) (ofKey j (L·Records .records (now (log .entry))))) k) ⌝ }
 {
     let counts = count_versions(log);
@@ -65,7 +65,7 @@ pub fn excess_versions<L: Records>(log: &L, writes: &[Write], depth: usize) -> P
 }
 
 // How many versions of each key are older than its newest one that is not above the horizon.
-pub fn outdated_versions<L: Records>(log: &L, horizon: u64) -> PerKey
+pub(crate) fn outdated_versions<L: Records>(log: &L, horizon: u64) -> PerKey
     ensures { λ r. ⌜ ((k : ℕ) → numberFor r k ≡ perKey (λ j. outdated horizon (ofKey j (L·Records .records (now (log .entry))))) k) ⌝ }
 {
     let mut counts = PerKey::none();
@@ -82,7 +82,7 @@ pub fn outdated_versions<L: Records>(log: &L, horizon: u64) -> PerKey
 }
 
 // How many records are left when each key drops its oldest ones, so many as are named for it.
-pub fn count_left<L: Records>(log: &L, dropped: PerKey) -> usize
+pub(crate) fn count_left<L: Records>(log: &L, dropped: PerKey) -> usize
     ensures { λ r. ⌜ r ≡ length (dropFirsts (numberFor dropped) (L·Records .records (now (log .entry)))) ⌝ }
 {
     let mut to_drop = dropped;
@@ -96,7 +96,7 @@ pub fn count_left<L: Records>(log: &L, dropped: PerKey) -> usize
 }
 
 // Drops of each key its oldest records, so many as are named for it. Each record that stays moves at most once.
-pub fn drop_oldest<L: RecordList>(log: &mut L, dropped: PerKey)
+pub(crate) fn drop_oldest<L: RecordList>(log: &mut L, dropped: PerKey)
     ensures after { λ _. ⌜ L·Records .records (now (log .exit)) ≡ dropFirsts (numberFor dropped) (L·Records .records (now (log .entry))) ⌝ }
     ensures places { λ _. ⌜ L·RecordList .places (now (log .exit)) ≡ L·RecordList .places (now (log .entry)) ⌝ }
     ensures tidy { λ _. ⌜ (L·RecordList .tidy (now (log .entry)) ≡ true → L·RecordList .tidy (now (log .exit)) ≡ true) ⌝ }
@@ -116,7 +116,7 @@ pub fn drop_oldest<L: RecordList>(log: &mut L, dropped: PerKey)
 }
 
 // Adds a record for each write, as far as there is room.
-pub fn append<L: RecordList>(log: &mut L, timestamp: u64, writes: &[Write])
+pub(crate) fn append<L: RecordList>(log: &mut L, timestamp: u64, writes: &[Write])
     ensures after { λ _. ⌜ L·Records .records (now (log .exit)) ≡ withWritten (L·RecordList .places (now (log .entry))) timestamp (L·Records .records (now (log .entry))) (now (writes .entry)) ⌝ }
     ensures places { λ _. ⌜ L·RecordList .places (now (log .exit)) ≡ L·RecordList .places (now (log .entry)) ⌝ }
     ensures tidy { λ _. ⌜ (L·RecordList .tidy (now (log .entry)) ≡ true → L·RecordList .tidy (now (log .exit)) ≡ true) ⌝ }
@@ -131,7 +131,7 @@ pub fn append<L: RecordList>(log: &mut L, timestamp: u64, writes: &[Write])
 }
 
 // Makes the list that of a new store, as far as there is room.
-pub fn start<L: RecordList>(log: &mut L)
+pub(crate) fn start<L: RecordList>(log: &mut L)
     ensures after { λ _. ⌜ L·Records .records (now (log .exit)) ≡ take (L·RecordList .places (now (log .entry))) (firstRecords keys) ⌝ }
     ensures places { λ _. ⌜ L·RecordList .places (now (log .exit)) ≡ L·RecordList .places (now (log .entry)) ⌝ }
     ensures tidy { λ _. ⌜ (L·RecordList .tidy (now (log .entry)) ≡ true → L·RecordList .tidy (now (log .exit)) ≡ true) ⌝ }
@@ -147,7 +147,12 @@ pub fn start<L: RecordList>(log: &mut L)
 }
 
 // Commits the writes at a timestamp, and answers whether there was room for them; if not, nothing changes.
-pub fn write_all<L: RecordList>(log: &mut L, timestamp: u64, writes: &[Write], depth: usize) -> bool
+pub(crate) fn write_all<L: RecordList>(
+    log: &mut L,
+    timestamp: u64,
+    writes: &[Write],
+    depth: usize,
+) -> bool
     ensures answer { λ r. ⌜ r ≡ leb (length (afterWrites depth timestamp (now (writes .entry)) (L·Records .records (now (log .entry))))) (L·RecordList .places (now (log .entry))) ⌝ }
     ensures after { λ r. ⌜ (r ≡ true → L·Records .records (now (log .exit)) ≡ afterWrites depth timestamp (now (writes .entry)) (L·Records .records (now (log .entry)))) ⌝ }
     ensures unchanged { λ r. ⌜ (r ≡ false → now (log .exit) ≡ now (log .entry)) ⌝ }
@@ -166,7 +171,7 @@ pub fn write_all<L: RecordList>(log: &mut L, timestamp: u64, writes: &[Write], d
 }
 
 // Drops of each key the versions older than its newest one that is not above the horizon.
-pub fn drop_outdated<L: RecordList>(log: &mut L, horizon: u64)
+pub(crate) fn drop_outdated<L: RecordList>(log: &mut L, horizon: u64)
     ensures after { λ _. ⌜ L·Records .records (now (log .exit)) ≡ withoutOutdated horizon (L·Records .records (now (log .entry))) ⌝ }
     ensures places { λ _. ⌜ L·RecordList .places (now (log .exit)) ≡ L·RecordList .places (now (log .entry)) ⌝ }
     ensures tidy { λ _. ⌜ (L·RecordList .tidy (now (log .entry)) ≡ true → L·RecordList .tidy (now (log .exit)) ≡ true) ⌝ }

@@ -9,13 +9,13 @@ use snapshot::limits::KEYS;
 use snapshot::limits::is_key;
 
 #[derive(Clone, Copy)]
-pub struct PerKey {
+pub(crate) struct PerKey {
     numbers: [usize; KEYS as usize],
 }
 
 impl PerKey {
     // 0 for every key.
-    pub fn none() -> PerKey
+    pub(crate) fn none() -> PerKey
         ensures { λ r. ⌜ ((k : ℕ) → numberFor r k ≡ 0) ⌝ }
     {
         PerKey {
@@ -24,7 +24,7 @@ impl PerKey {
     }
 
     // The number for this key; 0 where there is no such key.
-    pub fn get(&self, key: u8) -> usize
+    pub(crate) fn get(&self, key: u8) -> usize
         ensures { λ r. ⌜ r ≡ numberFor (now (self .entry)) key ⌝ }
     {
         if is_key(key) {
@@ -35,7 +35,7 @@ impl PerKey {
     }
 
     // Gives the key this number; where there is no such key, nothing changes.
-    pub fn set(&mut self, key: u8, number: usize)
+    pub(crate) fn set(&mut self, key: u8, number: usize)
         ensures { λ _. ⌜ ((k : ℕ) → numberFor (now (self .exit)) k ≡ with (numberFor (now (self .entry))) key number k) ⌝ }
     {
         if is_key(key) {
@@ -44,7 +44,7 @@ impl PerKey {
     }
 
     // Takes one from the key's number and answers whether there was one to take.
-    pub fn take_one(&mut self, key: u8) -> bool
+    pub(crate) fn take_one(&mut self, key: u8) -> bool
         ensures answer { λ r. ⌜ r ≡ ltb 0 (numberFor (now (self .entry)) key) ⌝ }
         ensures after { λ _. ⌜ ((k : ℕ) → numberFor (now (self .exit)) k ≡ oneLess (numberFor (now (self .entry))) key k) ⌝ }
     {

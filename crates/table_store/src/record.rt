@@ -23,7 +23,7 @@ pub const NO_RECORD: Record = Record {
 };
 
 // A list of records that can be read by place, from 0.
-pub trait Records {
+pub(crate) trait Records {
     ghost records: { Self → List Record };
 
     fn count(&self) -> usize
@@ -35,7 +35,7 @@ pub trait Records {
 }
 
 // A list of records in memory of a fixed size, which can be changed.
-pub trait RecordList: Records {
+pub(crate) trait RecordList: Records {
     // how many records the memory has room for
     ghost places: { Self → ℕ };
 

@@ -11,12 +11,12 @@ use snapshot::limits::MOST_RECORDS;
 
 // The first records of the memory, as many as are kept. Memory that is too small or too large has room for none.
 #[derive(Drop)]
-pub struct RecordSlice<'a> {
-    pub memory: &'a mut [Record],
-    pub kept: usize,
+pub(crate) struct RecordSlice<'a> {
+    pub(crate) memory: &'a mut [Record],
+    pub(crate) kept: usize,
 }
 
-pub impl<'a> Records for RecordSlice<'a> as SliceRecords {
+pub(crate) impl<'a> Records for RecordSlice<'a> as SliceRecords {
     ghost records = { λ s. listedIn (now (s .memory)) (s .kept) };
 
     fn count(&self) -> usize {
@@ -32,7 +32,7 @@ pub impl<'a> Records for RecordSlice<'a> as SliceRecords {
     }
 }
 
-pub impl<'a> RecordList for RecordSlice<'a> as SliceRecordList {
+pub(crate) impl<'a> RecordList for RecordSlice<'a> as SliceRecordList {
     ghost places = { λ s. roomIn (now (s .memory)) };
 
     ghost tidy = { λ s. zerosAfter (now (s .memory)) (s .kept) };
@@ -65,7 +65,7 @@ pub impl<'a> RecordList for RecordSlice<'a> as SliceRecordList {
 }
 
 // How many records there is room for in this memory: as many as it has, or none where that is no fit number.
-pub fn room_in(memory: &[Record]) -> usize
+pub(crate) fn room_in(memory: &[Record]) -> usize
     ensures { λ r. ⌜ r ≡ roomIn (now (memory .entry)) ⌝ }
 {
     let size = memory.len();

@@ -5,7 +5,7 @@ ghost use lib.Dec.{lit≤};
 ghost use lib.ListN.{length};
 ghost use Rattle.std.specs.Vec.{refused};
 ghost use Rattle.store.specs.Meaning.{newStore, commitAnswer, afterCommit, afterPrune};
-ghost use Rattle.table_store.specs.Stores.{HoldsVersions, LeavesUnfit, meaningOf};
+ghost use Rattle.table_store.specs.Stores.{HoldsVersions, LeavesUnfit, NoOtherLayout, meaningOf};
 ghost use Rattle.table_store.specs.Tables.{capacityOf, isTableSize, memoryCheck};
 use crate::log::drop_outdated;
 use crate::log::newest_at;
@@ -57,6 +57,7 @@ impl<'a> Table<'a> {
     pub fn records(&self) -> &[Record]
         ensures value { λ r. ⌜ now r ≡ now (now (self .entry) .list .memory) ⌝ }
         ensures laid { λ _. ⌜ HoldsVersions (now (self .entry)) ⌝ }
+        ensures only { λ _. ⌜ NoOtherLayout (now (self .entry)) ⌝ }
     {
         self.list.memory
     }
