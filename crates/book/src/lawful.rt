@@ -4,7 +4,7 @@ ghost use mathlib.Core.Path.{_≡_};
 ghost use Prim.Native.Nat.{_<_, _^_};
 ghost use lib.Dec.{ltb};
 ghost use Rattle.std.specs.shelf.Lists.{All};
-ghost use Rattle.snapshot.specs.Accounts.{Agrees, agreedEnds, all, fewEnough, lawful, soundReading, soundTimestamp, risingFrom, greatestTimestamp, leastPromise};
+ghost use Rattle.snapshot.specs.Accounts.{Agrees, agreedEnds, all, fewEnough, lawful, soundReading, soundTimestamp, greatestTimestamp, leastPromise};
 ghost use Rattle.snapshot.specs.Intervals.{fromTo};
 ghost use Rattle.book.specs.Theorems.{ValuesFit};
 ghost use Rattle.book.specs.Format.{whole};

@@ -1,5 +1,5 @@
 -- What a store means, and what its four calls answer and leave.
-use mathlib.Core.Bool.{Bool, true, false, cond, _&&_, _||_}
+use mathlib.Core.Bool.{Bool, false, cond, _&&_, _||_}
 use mathlib.Core.List.{List, [], _∷_, _++_}
 use Prim.Native.Nat.{ℕ, zero, suc, min, max, _+_, _-_, _≤_}
 use lib.Dec.{leb, eqb}

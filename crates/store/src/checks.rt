@@ -1,8 +1,7 @@
 // What every store checks before it looks at its versions: the key and time of a question, the writes and clock reading
 // of a commit.
 ghost use mathlib.Core.Path.{_≡_};
-ghost use Rattle.std.specs.Options.{okOr};
-ghost use Rattle.store.specs.Meaning.{fitWrites, issued, timestampFor, inRange, storeFault};
+ghost use Rattle.store.specs.Meaning.{fitWrites, issued, timestampFor, inRange};
 use snapshot::account::Write;
 use snapshot::fault::Fault;
 use snapshot::fault::Layer;

@@ -1,9 +1,9 @@
 -- Numbers that are kept for each key while a list is walked: one more record, or one more write, changes one key's number.
 use mathlib.Core.Bool.{Bool, true, false, cond, _&&_}
 use mathlib.Core.List.{List, [], _∷_, _++_}
-use mathlib.Core.Logic.{inl, inr, ⊎-elim}
+use mathlib.Core.Logic.{⊎-elim}
 use mathlib.Core.Path.{_≡_, refl, sym, ap, subst, _∙_}
-use Prim.Native.Nat.{ℕ, min, _+_, _-_, _<_, _≤_}
+use Prim.Native.Nat.{ℕ, _+_, _-_, _<_, _≤_}
 use native.Mathlib.Omega.{arith}
 use lib.Dec.{eqb, leb}
 use lib.ListN.{length, getD, take}
@@ -11,10 +11,9 @@ use Rattle.std.specs.Options.{orOther}
 use Rattle.std.specs.declared.option.Option.{Option}
 use Rattle.std.specs.declared.option.Option.the-variants.{Some, None}
 use Rattle.std.specs.shelf.Lists.{kept-by}
-use Rattle.std.proofs.shelf.Lists.{length-map, length-push, length-take, take-all, take-more}
+use Rattle.std.proofs.shelf.Lists.{length-map, length-push, length-take, take-more}
 use Rattle.std.proofs.shelf.Sums.{length-kept-by, countBy-le-length}
-use Rattle.std.proofs.shelf.Tests.{cases-bool, cases-eq, cond-true, cond-false, cond-both, eq-eqb, ne-eqb, le-leb, lt-leb}
-use Rattle.std.proofs.shelf.Ways.{tells}
+use Rattle.std.proofs.shelf.Tests.{cases-eq, cond-true, cond-false, cond-both, eq-eqb, ne-eqb, le-leb, lt-leb}
 use Rattle.snapshot.specs.Accounts.{zeroWrite}
 use Rattle.snapshot.specs.Limits.{isKey}
 use Rattle.snapshot.specs.declared.account.Write.{Write}

@@ -1,5 +1,5 @@
 -- Dropping the first records of each key, walked from the front: what is left to look at, and what stays in place.
-use mathlib.Core.Bool.{true, false, cond}
+use mathlib.Core.Bool.{true, false}
 use mathlib.Core.List.{List, [], _∷_, _++_, append-assoc}
 use mathlib.Core.Path.{_≡_, refl, sym, ap, transport, _∙_}
 use Prim.Native.Nat.{ℕ, _+_, _-_, _<_, _≤_}

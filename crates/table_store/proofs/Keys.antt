@@ -1,15 +1,13 @@
 -- The versions of one key in a list of records: of two lists joined, and of one record more.
 use mathlib.Core.Bool.{true, false, cond}
 use mathlib.Core.List.{List, [], _∷_, _++_, map}
-use mathlib.Core.Path.{_≡_, refl, sym, ap, _∙_}
+use mathlib.Core.Path.{_≡_, ap, _∙_}
 use Prim.Native.Nat.{ℕ, _+_, _-_, _<_, _≤_}
 use native.Mathlib.Omega.{arith}
-use lib.Dec.{eqb}
 use lib.ListN.{length, getD, take}
 use Rattle.std.specs.shelf.Lists.{kept-by}
 use Rattle.std.proofs.shelf.Elements.{kept-by-append, kept-by-more}
 use Rattle.std.proofs.shelf.Lists.{append-nil, map-append}
-use Rattle.store.specs.declared.version.Version.{Version}
 use Rattle.table_store.specs.Records.{hasKey, versionIn, ofKey}
 use Rattle.table_store.specs.declared.record.Record.{Record}
 

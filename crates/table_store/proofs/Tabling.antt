@@ -1,9 +1,9 @@
 -- A table's memory, its meaning and its layout: what its soundness says, and what a commit and a prune leave.
 use mathlib.Core.Bool.{Bool, true, false, cond, _&&_}
-use mathlib.Core.List.{List, [], _∷_, _++_, map}
+use mathlib.Core.List.{List, [], _∷_, _++_}
 use mathlib.Core.Logic.{⊎-elim}
 use mathlib.Core.Path.{_≡_, refl, sym, ap, subst, _∙_}
-use Prim.Native.Nat.{ℕ, zero, suc, min, _+_, _-_, _<_, _≤_}
+use Prim.Native.Nat.{ℕ, min, _+_, _-_, _<_, _≤_}
 use native.Mathlib.Omega.{arith}
 use lib.Dec.{eqb, leb, ltb}
 use lib.ListN.{length, take, drop, replicate}
@@ -21,12 +21,11 @@ use Rattle.snapshot.specs.Limits.{keys, isKey, isTime}
 use Rattle.snapshot.specs.declared.account.Write.{Write}
 use Rattle.snapshot.specs.declared.fault.Fault.{Fault}
 use Rattle.snapshot.specs.declared.fault.Refusal.the-variants.{CapacityExceeded, VersionGone}
-use Rattle.store.specs.Meaning.{Meaning, versionOf, newStore, questionFault, storeFault, inRange, newestAt, readingOf, versionAnswer, timestampFor, writtenTo, keptWith, withWrites, versionsBelow, versionsKept, ifRoom, commitAnswer, committed, afterCommit, outdated, afterPrune}
+use Rattle.store.specs.Meaning.{Meaning, versionOf, newStore, questionFault, storeFault, inRange, newestAt, readingOf, versionAnswer, timestampFor, writtenTo, keptWith, withWrites, versionsBelow, versionsKept, ifRoom, commitAnswer, outdated}
 use Rattle.store.specs.declared.version.Version.{Version}
 use Rattle.store.proofs.Writes.{rising-writes, some-write}
 use Rattle.table_store.proofs.Adding.{after-length}
 use Rattle.table_store.proofs.Layouts.{all-from, all-left, order-left, commit-sound, commit-order, ofKey-commit, ofKey-prune, versions-together, first-sound, first-order, first-length, first-kept}
-use Rattle.table_store.proofs.Memory.{room-le}
 use Rattle.table_store.specs.PerKeys.{perKey}
 use Rattle.table_store.specs.Records.{afterWrites, dropFirsts, excess, firstRecords, noRecord, ofKey, withoutOutdated}
 use Rattle.table_store.specs.Tables.{LaidOut, capacityOf, inOrder, isTableSize, isZero, listedIn, roomIn, shownIn, soundRecord, soundTable, tableMeaning, zerosAfter}

@@ -1,13 +1,12 @@
 -- Records that hold the same versions of each key in the same order are the same: a meaning is laid out in one way only.
-use mathlib.Core.Bool.{Bool, true, false, _&&_}
+use mathlib.Core.Bool.{Bool, true, false}
 use mathlib.Core.List.{List, [], _∷_, _++_}
 use mathlib.Core.Logic.{⊎-elim}
 use mathlib.Core.Path.{_≡_, refl, sym, ap, subst, _∙_}
 use Prim.Native.Nat.{ℕ, _-_}
 use native.Mathlib.Omega.{arith}
-use lib.Dec.{eqb}
 use lib.ListN.{length, replicate}
-use Rattle.std.proofs.shelf.Tests.{and-parts, cases-bool, both-ways, eqb-true, eq-eqb}
+use Rattle.std.proofs.shelf.Tests.{and-parts, cases-bool, eqb-true, eq-eqb}
 use Rattle.std.proofs.shelf.Ways.{tells}
 use Rattle.snapshot.specs.Accounts.{all}
 use Rattle.store.specs.Meaning.{Meaning}

@@ -1,9 +1,7 @@
 // A number for each of the 64 keys.
-ghost use mathlib.Core.Bool.{cond, _&&_};
 ghost use mathlib.Core.Path.{_≡_};
 ghost use Prim.Native.Nat.{ℕ, _-_};
-ghost use lib.Dec.{eqb, ltb};
-ghost use Rattle.snapshot.specs.Limits.{isKey};
+ghost use lib.Dec.{ltb};
 ghost use Rattle.table_store.specs.PerKeys.{numberFor, with, oneLess};
 use snapshot::limits::KEYS;
 use snapshot::limits::is_key;

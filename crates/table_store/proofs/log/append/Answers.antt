@@ -1,6 +1,6 @@
 -- Each write adds its record, as far as there is room.
 use mathlib.Core.Path.{refl, sym, ap, _∙_}
-use lib.ListN.{getD, take}
+use lib.ListN.{getD}
 use Rattle.std.proofs.shelf.Lists.{take-all}
 use Rattle.std.proofs.shelf.Sums.{folded-more}
 use Rattle.snapshot.specs.Accounts.{zeroWrite}

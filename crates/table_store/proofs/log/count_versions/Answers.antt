@@ -1,7 +1,7 @@
 -- Each record raises its key's number by one.
 use mathlib.Core.Path.{refl, sym, ap}
 use native.Mathlib.Omega.{arith}
-use lib.ListN.{length, take}
+use lib.ListN.{length}
 use Rattle.std.proofs.shelf.Lists.{take-all}
 use Rattle.table_store.proofs.Counting.{counted, counted-le, count-more, none-yet, same-numbers}
 use Rattle.table_store.specs.Records.{ofKey}

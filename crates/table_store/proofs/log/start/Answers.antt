@@ -1,6 +1,5 @@
 -- Each turn adds the first record of one key more.
 use mathlib.Core.Path.{_≡_, refl, sym, ap, _∙_}
-use Prim.Native.Nat.{_+_}
 use native.Mathlib.Omega.{arith}
 use lib.ListN.{take}
 use Rattle.table_store.proofs.Adding.{first-none, first-more}

@@ -1,6 +1,6 @@
 -- There is room exactly where the list after the commit fits, and then the records stand behind those that are left.
 use mathlib.Core.List.{_++_, map}
-use mathlib.Core.Path.{_≡_, refl, sym, ap, _∙_}
+use mathlib.Core.Path.{refl, sym, ap, _∙_}
 use Prim.Native.Nat.{_+_, _<_, _≤_}
 use native.Mathlib.Omega.{arith}
 use lib.ListN.{length}

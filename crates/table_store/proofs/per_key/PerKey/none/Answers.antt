@@ -1,5 +1,4 @@
 -- Every number of 64 zeros is 0.
-use mathlib.Core.Bool.{cond}
 use mathlib.Core.Path.{_≡_, refl}
 use Prim.Native.Nat.{ℕ, zero, suc}
 use lib.ListN.{getD, replicate}

@@ -1,5 +1,5 @@
 -- Where there is room the record stands behind the others; where there is none nothing changes.
-use mathlib.Core.Path.{_≡_, refl, sym, _∙_}
+use mathlib.Core.Path.{_≡_, refl, _∙_}
 use Prim.Native.Nat.{min, _<_, _≤_}
 use native.Mathlib.Omega.{arith}
 use Rattle.table_store.proofs.Memory.{listed-length, push-listed, push-room, push-zeros, push-full}

@@ -1,7 +1,6 @@
 -- Each turn zeroes one record more; what is left is the front of the list.
-use mathlib.Core.Bool.{true}
-use mathlib.Core.Path.{_≡_, sym, ap, _∙_}
-use Prim.Native.Nat.{min, _<_, _≤_}
+use mathlib.Core.Path.{_≡_, ap, _∙_}
+use Prim.Native.Nat.{min, _≤_}
 use native.Mathlib.Omega.{arith}
 use Rattle.table_store.proofs.Memory.{listed-length, none-cut, one-cut, cut-listed, cut-room, cut-zeros}
 use Rattle.table_store.specs.Tables.{listedIn, roomIn, zerosAfter}

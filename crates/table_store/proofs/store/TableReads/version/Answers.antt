@@ -1,5 +1,5 @@
 -- In unfit memory every key has its first version.
-use mathlib.Core.Path.{_≡_, sym, _∙_}
+use mathlib.Core.Path.{sym, _∙_}
 use Rattle.table_store.proofs.Tabling.{unfit-from-room, unfit-version}
 use Rattle.table_store.proofs.store.TableReads.version.Needs as need
 

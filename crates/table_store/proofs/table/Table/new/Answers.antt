@@ -1,12 +1,7 @@
 -- Fit memory lists the records of a new store; unfit memory is as it was.
-use mathlib.Core.Bool.{true, false}
-use mathlib.Core.Path.{_≡_, refl, sym, ap, subst, _∙_}
+use mathlib.Core.Path.{sym, subst}
 use native.Mathlib.Omega.{arith}
-use lib.ListN.{length}
-use Rattle.std.proofs.shelf.Tests.{both-ways}
-use Rattle.store.specs.Meaning.{newStore}
 use Rattle.table_store.proofs.Tabling.{New, new-in-fit, new-in-unfit, fit-from-room, unfit-from-room, laid-out}
-use Rattle.table_store.specs.Tables.{capacityOf, isTableSize, soundTable, tableMeaning}
 use Rattle.table_store.specs.declared.slice.RecordSlice.{RecordSlice}
 use Rattle.table_store.proofs.table.Table.new.Needs as need
 use Rattle.table_store.proofs.table.Table.new.Needs.{Joined-room-gt0, then-room-gt0, else-room-gt0}
