@@ -142,10 +142,11 @@ abbrev pub outdated : ℕ → List Version → ℕ
 outdated h [] = 0
 outdated h (v ∷ vs) = cond (someUpTo h vs) (suc (outdated h vs)) 0
 
+-- each key drops its outdated versions
+abbrev pub prunedAt : ℕ → Meaning → Meaning
+prunedAt h m =
+    record { last = m .last; capacity = m .capacity; kept = λ k. drop (outdated h (m .kept k)) (m .kept k) }
+
+-- nothing later than last is looked for
 abbrev pub afterPrune : ℕ → Meaning → Meaning
-afterPrune h m =
-    record {
-      last = m .last;
-      capacity = m .capacity;
-      kept = λ k. drop (outdated (min h (m .last)) (m .kept k)) (m .kept k);
-    }
+afterPrune h m = prunedAt (min h (m .last)) m

@@ -14,7 +14,7 @@ use Rattle.snapshot.specs.declared.account.Write.{Write}
 use Rattle.snapshot.specs.declared.fault.Fault.{Fault}
 use Rattle.snapshot.specs.declared.fault.Refusal.{Refusal}
 use Rattle.snapshot.specs.declared.interval.Interval.{Interval}
-use Rattle.store.specs.Meaning.{Meaning, versionOf, newStore, versionAnswer, commitAnswer, afterPrune}
+use Rattle.store.specs.Meaning.{Meaning, versionOf, versionAnswer, timestampFor, afterPrune}
 
 -- what a case comes to
 pub data Outcome : Type 0 where
@@ -54,9 +54,8 @@ readOutcome (Err f) = refused (numberOf (f .refusal))
 -- a commit of one write at this clock reading, to a store with this last timestamp
 abbrev commits : ℕ → ℕ → Outcome
 commits clock last =
-    let m : Meaning = record { last = last; capacity = 1024; kept = newStore 1024 .kept } in
     let w : Write = record { key = 0; value = 1 } in
-    commitOutcome (commitAnswer 16 clock (w ∷ []) m)
+    commitOutcome (timestampFor clock (w ∷ []) last)
 
 -- a store with last 45 that keeps of every key versions at 0, 10 and 30
 abbrev threeVersions : Meaning

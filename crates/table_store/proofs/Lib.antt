@@ -6,7 +6,7 @@ pub mod Dropping
 pub mod Adding
 pub mod Memory
 pub mod Layouts
+pub mod Uniqueness
 pub mod Tabling
 pub mod Sameness
 pub mod Changing
-pub mod Uniqueness

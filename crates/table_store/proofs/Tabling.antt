@@ -1,5 +1,5 @@
 -- A table's memory, its meaning and its layout: what its soundness says, and what a commit and a prune leave.
-use mathlib.Core.Bool.{Bool, true, false, cond, _&&_}
+use mathlib.Core.Bool.{true, false, cond, _&&_}
 use mathlib.Core.List.{List, [], _∷_, _++_}
 use mathlib.Core.Logic.{⊎-elim}
 use mathlib.Core.Path.{_≡_, refl, sym, ap, subst, _∙_}
@@ -7,28 +7,24 @@ use Prim.Native.Nat.{ℕ, min, _+_, _-_, _<_, _≤_}
 use native.Mathlib.Omega.{arith}
 use lib.Dec.{eqb, leb, ltb}
 use lib.ListN.{length, take, drop, replicate}
-use Rattle.std.specs.Options.{okOr, orOther}
+use Rattle.std.specs.Options.{orOther}
 use Rattle.std.specs.declared.option.Option.{Option}
 use Rattle.std.specs.declared.option.Option.the-variants.{Some, None}
-use Rattle.std.specs.declared.result.Result.{Result}
-use Rattle.std.specs.declared.result.Result.the-variants.{Ok, Err}
 use Rattle.std.specs.shelf.Lists.{All}
 use Rattle.std.proofs.shelf.Lists.{drop-all, length-drop, length-take, take-all, take-append-drop}
 use Rattle.std.proofs.shelf.Tests.{and-parts, and-from, both-ways, cases-bool, cond-both, cond-true, cond-false, eqb-true, leb-true, le-leb, lt-leb}
 use Rattle.std.proofs.shelf.Ways.{tells}
-use Rattle.snapshot.specs.Accounts.{all, risingFrom}
-use Rattle.snapshot.specs.Limits.{keys, isKey, isTime}
+use Rattle.snapshot.specs.Accounts.{all}
+use Rattle.snapshot.specs.Limits.{keys, isKey}
 use Rattle.snapshot.specs.declared.account.Write.{Write}
-use Rattle.snapshot.specs.declared.fault.Fault.{Fault}
-use Rattle.snapshot.specs.declared.fault.Refusal.the-variants.{CapacityExceeded, VersionGone}
-use Rattle.store.specs.Meaning.{Meaning, versionOf, newStore, questionFault, storeFault, inRange, newestAt, readingOf, versionAnswer, timestampFor, writtenTo, keptWith, withWrites, versionsBelow, versionsKept, ifRoom, commitAnswer, outdated}
+use Rattle.store.specs.Meaning.{Meaning, versionOf, newStore, inRange, newestAt, readingOf, writtenTo, keptWith, withWrites, versionsBelow, versionsKept, outdated}
 use Rattle.store.specs.declared.version.Version.{Version}
-use Rattle.store.proofs.Writes.{rising-writes, some-write}
 use Rattle.table_store.proofs.Adding.{after-length}
 use Rattle.table_store.proofs.Layouts.{all-from, all-left, order-left, commit-sound, commit-order, ofKey-commit, ofKey-prune, versions-together, first-sound, first-order, first-length, first-kept}
+use Rattle.table_store.proofs.Uniqueness.{one-layout}
 use Rattle.table_store.specs.PerKeys.{perKey}
 use Rattle.table_store.specs.Records.{afterWrites, dropFirsts, excess, firstRecords, noRecord, ofKey, withoutOutdated}
-use Rattle.table_store.specs.Tables.{LaidOut, capacityOf, inOrder, isTableSize, isZero, listedIn, roomIn, shownIn, soundRecord, soundTable, tableMeaning, zerosAfter}
+use Rattle.table_store.specs.Tables.{HeldIn, LaidOut, MadeNew, Takes, capacityOf, inOrder, isTableSize, isZero, listedIn, roomIn, shownIn, soundRecord, soundTable, tableMeaning, zerosAfter}
 use Rattle.table_store.specs.declared.record.Record.{Record}
 
 -- Fit and unfit memory.
@@ -130,7 +126,7 @@ keys-in last (r ∷ rs) s =
     let parts = and-parts (soundRecord last r) (all (soundRecord last) rs) s in
     (and-parts (isKey (r .key)) (leb (r .timestamp) last) (parts .0) .0, keys-in last rs (parts .1))
 
-pub laid-out : (mem : List Record) (n last : ℕ) → soundTable mem n last ≡ true → isTableSize (length mem) ≡ true → LaidOut (tableMeaning mem n last) mem
+laid-out : (mem : List Record) (n last : ℕ) → soundTable mem n last ≡ true → isTableSize (length mem) ≡ true → LaidOut (tableMeaning mem n last) mem
 laid-out mem n last s fit =
     let sound = sound-parts mem n last s in
     let shown = shown-fit mem n fit in
@@ -144,6 +140,11 @@ laid-out mem n last s fit =
       inRange = keys-in last (take m mem) (ap (all (soundRecord last)) (sym shown) ∙ sound .records);
       versions = λ k. ap (ofKey k) (sym shown);
     }
+
+pub held : (mem : List Record) (n last : ℕ) → soundTable mem n last ≡ true → HeldIn mem n last
+held mem n last s fit =
+    let laid = laid-out mem n last s fit in
+    (laid, λ other long there. one-layout (tableMeaning mem n last) mem other long laid there)
 
 -- A commit.
 
@@ -166,27 +167,21 @@ first-excess ws k =
     omega (arith, ap length (first-kept k), cond-both (isKey k) (versionOf 0 0 ∷ []) [] (λ vs. length vs ≤ 1) (λ _. omega arith) (λ _. omega arith)) in
     cond-both (isKey k) _ 0 (λ x. x ≡ 0) (λ _. no-excess (writtenTo k ws) (ofKey k (firstRecords keys)) one) (λ _. refl)
 
-later : (clock : ℕ) (ws : List Write) (last t : ℕ) → timestampFor clock ws last ≡ Ok t → last < t
-later clock ws last t e = grind (arith, tells)
-
-module _ (mem : List Record) (n last clock t : ℕ) (ws : List Write) (s : soundTable mem n last ≡ true) (accepted : timestampFor clock ws last ≡ Ok t) where
+module _ (mem : List Record) (n last t : ℕ) (ws : List Write) (s : soundTable mem n last ≡ true) (takes : Takes last t ws) where
   abbrev rs : List Record
   rs = shownIn mem n
 
   abbrev m : Meaning
   m = tableMeaning mem n last
 
-  rising : risingFrom 0 ws ≡ true
-  rising = rising-writes clock ws last t accepted
-
   sound-after : all (soundRecord t) (afterWrites 16 t ws rs) ≡ true
-  sound-after = commit-sound 16 last t ws rs (later clock ws last t accepted) rising (sound-parts mem n last s .records)
+  sound-after = commit-sound 16 last t ws rs (takes .later) (takes .rising) (sound-parts mem n last s .records)
 
   order-after : inOrder (afterWrites 16 t ws rs) ≡ true
-  order-after = commit-order 16 last t ws rs (later clock ws last t accepted) rising (sound-parts mem n last s .records) (sound-parts mem n last s .order)
+  order-after = commit-order 16 last t ws rs (takes .later) (takes .rising) (sound-parts mem n last s .records) (sound-parts mem n last s .order)
 
   kept-after : (k : ℕ) → ofKey k (afterWrites 16 t ws rs) ≡ keptWith 16 t (writtenTo k ws) (m .kept k)
-  kept-after k = ofKey-commit 16 t ws rs (omega arith) rising k
+  kept-after k = ofKey-commit 16 t ws rs (omega arith) (takes .rising) k
 
   -- as many versions as records
   versions-after : versionsKept (withWrites 16 t ws m) ≡ length (afterWrites 16 t ws rs)
@@ -204,7 +199,7 @@ module _ (mem : List Record) (n last clock t : ℕ) (ws : List Write) (s : sound
   unfit-agrees : isTableSize (length mem) ≡ false → leb (length (afterWrites 16 t ws (listedIn mem n))) (roomIn mem) ≡ leb (versionsKept (withWrites 16 t ws m)) (m .capacity)
   unfit-agrees unfit =
       let none = unfit-room mem unfit in
-      let some = some-write clock ws last t accepted in
+      let some = takes .some in
       let shown = shown-unfit mem n unfit in
       let first = firstRecords keys in
       let e = perKey (λ k. excess 16 (writtenTo k ws) (ofKey k first)) in
@@ -219,16 +214,11 @@ module _ (mem : List Record) (n last clock t : ℕ) (ws : List Write) (s : sound
   pub room-agrees : leb (length (afterWrites 16 t ws (listedIn mem n))) (roomIn mem) ≡ leb (versionsKept (withWrites 16 t ws m)) (m .capacity)
   room-agrees = ⊎-elim fit-agrees unfit-agrees (cases-bool (isTableSize (length mem)))
 
-  pub commit-answer : (b : Bool) → b ≡ leb (length (afterWrites 16 t ws (listedIn mem n))) (roomIn mem) → cond b (Ok t) (Err (storeFault CapacityExceeded)) ≡ commitAnswer 16 clock ws m
-  commit-answer b is =
-      ap (λ x. cond x (Ok t) (Err (storeFault CapacityExceeded))) (is ∙ room-agrees)
-      ∙ ap (ifRoom 16 ws m) (sym accepted)
-
   -- where there is room, the memory is fit
   pub fit-where-room : true ≡ leb (length (afterWrites 16 t ws (listedIn mem n))) (roomIn mem) → isTableSize (length mem) ≡ true
   fit-where-room fits =
       let long = after-length 16 t ws (listedIn mem n) _ (λ k. refl) in
-      let some = some-write clock ws last t accepted in
+      let some = takes .some in
       fit-from-room mem (omega (arith, leb-true _ _ (sym fits), long, some))
 
   -- the memory after an accepted commit
@@ -288,14 +278,9 @@ prune-unfit mem n last h unfit k =
 
 -- A new store.
 
-pub record New (mem mem′ : List Record) (n : ℕ) : Type 0 where
-  pub sound : soundTable mem′ n 0 ≡ true
-  pub meaning : tableMeaning mem′ n 0 ≡ newStore (capacityOf (length mem))
-  pub alone : isTableSize (length mem) ≡ false → mem′ ≡ mem
-
-pub new-in-unfit : (mem : List Record) (n : ℕ) → isTableSize (length mem) ≡ false → New mem mem n
+pub new-in-unfit : (mem : List Record) (n : ℕ) → isTableSize (length mem) ≡ false → MadeNew mem mem n
 new-in-unfit mem n unfit =
-    record { sound = sound-unfit mem n 0 unfit; meaning = new-meaning mem mem n refl (shown-unfit mem n unfit); alone = λ _. refl }
+    record { sound = sound-unfit mem n 0 unfit; meaning = new-meaning mem mem n refl (shown-unfit mem n unfit); held = held mem n 0 (sound-unfit mem n 0 unfit); alone = λ _. refl }
 
 -- all of the memory is listed before, so that nothing comes after
 all-listed : (mem : List Record) → isTableSize (length mem) ≡ true → zerosAfter mem (length mem) ≡ true
@@ -305,32 +290,30 @@ all-listed mem fit =
 
 pub new-in-fit :
     (mem mem′ : List Record) (n : ℕ) → isTableSize (length mem) ≡ true → roomIn mem′ ≡ roomIn mem → listedIn mem′ n ≡ take (roomIn mem) (firstRecords keys) →
-    (zerosAfter mem (length mem) ≡ true → zerosAfter mem′ n ≡ true) → New mem mem′ n
+    (zerosAfter mem (length mem) ≡ true → zerosAfter mem′ n ≡ true) → MadeNew mem mem′ n
 new-in-fit mem mem′ n fit same is tidy =
     let size = same-length mem mem′ same fit in
     let fit′ = ap isTableSize size ∙ fit in
     let first = new-fit mem mem′ n fit same is in
+    let sound = sound-fit mem′ n 0 (firstRecords keys) fit′ first (first-sound 0) (first-order keys) (tidy (all-listed mem fit)) in
     record {
-      sound = sound-fit mem′ n 0 (firstRecords keys) fit′ first (first-sound 0) (first-order keys) (tidy (all-listed mem fit));
+      sound = sound;
       meaning = new-meaning mem mem′ n size (shown-fit mem′ n fit′ ∙ first);
+      held = held mem′ n 0 sound;
       alone = λ unfit. absurd (both-ways _ unfit fit);
     }
 
 -- A question.
 
-taken : (b : Bool) (e : Fault) → _≡_ {A = Result (Unit {0}) Fault} (Ok tt) (cond b (Ok tt) (Err e)) → b ≡ true
-taken true e is = refl
-taken false e is = let z : _≡_ {A = ℕ} 0 1 = cc in absurd (omega (arith, z))
-
-pub unfit-version : (mem : List Record) (n last k s : ℕ) → isTableSize (length mem) ≡ false → Ok tt ≡ inRange k s → Ok (readingOf (versionOf 0 0) last) ≡ versionAnswer (tableMeaning mem n last) k s
-unfit-version mem n last k s unfit asked =
-    let here = taken (isKey k && isTime s) _ asked in
-    let key = and-parts (isKey k) (isTime s) here .0 in
+pub unfit-newest : (mem : List Record) (n last k s : ℕ) → isTableSize (length mem) ≡ false → isKey k ≡ true → Some (readingOf (versionOf 0 0) last) ≡ newestAt s last (tableMeaning mem n last .kept k)
+unfit-newest mem n last k s unfit key =
     let vs = ap (ofKey k) (shown-unfit mem n unfit) ∙ first-kept k ∙ cond-true (isKey k) (versionOf 0 0 ∷ []) [] key in
     sym
-    (cond-true (isKey k && isTime s) _ _ here
-    ∙ ap (λ xs. okOr (newestAt s last xs) (questionFault VersionGone k)) vs
-    ∙ ap (λ b. okOr (orOther None (cond b (Some (readingOf (versionOf 0 0) last)) None)) (questionFault VersionGone k)) (le-leb 0 s (omega arith)))
+    (ap (newestAt s last) vs
+    ∙ ap (λ b. orOther None (cond b (Some (readingOf (versionOf 0 0) last)) None)) (le-leb 0 s (omega arith)))
+
+pub fit-newest : (mem : List Record) (n last k s : ℕ) → isTableSize (length mem) ≡ true → newestAt s last (ofKey k (listedIn mem n)) ≡ newestAt s last (tableMeaning mem n last .kept k)
+fit-newest mem n last k s fit = ap (λ rs. newestAt s last (ofKey k rs)) (sym (shown-fit mem n fit))
 
 -- what a fit table's soundness says of the zeros
 pub sound-zeros : (mem : List Record) (n last : ℕ) → soundTable mem n last ≡ true → isTableSize (length mem) ≡ true → zerosAfter mem n ≡ true

@@ -1,18 +1,19 @@
 -- The memory of a table store: what it lists, what it means, and how it is laid out.
-use mathlib.Core.Bool.{Bool, true, cond, _&&_, _||_}
+use mathlib.Core.Bool.{Bool, true, false, cond, _&&_, _||_}
 use mathlib.Core.List.{List, [], _∷_, _++_}
 use mathlib.Core.Path.{_≡_}
-use Prim.Native.Nat.{ℕ, min, _-_}
+use Prim.Native.Nat.{ℕ, min, _-_, _<_, _≤_}
 use lib.Dec.{eqb, leb, ltb}
 use lib.ListN.{length, take, drop, replicate}
 use Rattle.std.specs.declared.result.Result.{Result}
 use Rattle.std.specs.declared.result.Result.the-variants.{Ok, Err}
 use Rattle.std.specs.shelf.Lists.{All}
-use Rattle.snapshot.specs.Accounts.{all}
+use Rattle.snapshot.specs.Accounts.{all, risingFrom}
 use Rattle.snapshot.specs.Limits.{keys, isKey}
+use Rattle.snapshot.specs.declared.account.Write.{Write}
 use Rattle.snapshot.specs.declared.fault.Fault.{Fault}
 use Rattle.snapshot.specs.declared.fault.Refusal.the-variants.{UnfitMemory}
-use Rattle.store.specs.Meaning.{Meaning, storeFault}
+use Rattle.store.specs.Meaning.{Meaning, newStore, storeFault}
 use Rattle.table_store.specs.Records.{firstRecords, noRecord, ofKey}
 use Rattle.table_store.specs.declared.record.Record.{Record}
 
@@ -79,3 +80,25 @@ pub record LaidOut (m : Meaning) (mem : List Record) : Type 0 where
   pub ordered : inOrder front ≡ true
   pub inRange : All (λ r. isKey (r .key) ≡ true) front
   pub versions : (k : ℕ) → ofKey k front ≡ m .kept k
+
+-- and no other records in memory of that size do
+abbrev pub OnlyLayout : Meaning → List Record → Type 0
+OnlyLayout m mem = (other : List Record) → length other ≡ length mem → LaidOut m other → other ≡ mem
+
+-- so fit memory holds what the table means
+abbrev pub HeldIn : List Record → ℕ → ℕ → Type 0
+HeldIn mem n last =
+    isTableSize (length mem) ≡ true → LaidOut (tableMeaning mem n last) mem × OnlyLayout (tableMeaning mem n last) mem
+
+-- memory that has become that of a new store: it is sound, means a new store and holds it, or is unfit and left alone
+pub record MadeNew (before after : List Record) (n : ℕ) : Type 0 where
+  pub sound : soundTable after n 0 ≡ true
+  pub meaning : tableMeaning after n 0 ≡ newStore (capacityOf (length before))
+  pub held : HeldIn after n 0
+  pub alone : isTableSize (length before) ≡ false → after ≡ before
+
+-- writes that a table can take at a timestamp: some, with rising keys, and later than last
+pub record Takes (last t : ℕ) (ws : List Write) : Type 0 where
+  pub some : 1 ≤ length ws
+  pub rising : risingFrom 0 ws ≡ true
+  pub later : last < t

@@ -1,7 +1,7 @@
 // The rules for a list of records, oldest first, whatever memory holds it.
 ghost use mathlib.Core.Path.{_≡_};
 ghost use mathlib.Core.Bool.{true, false};
-ghost use Prim.Native.Nat.{ℕ};
+ghost use Prim.Native.Nat.{ℕ, _+_, _-_};
 ghost use lib.Dec.{leb};
 ghost use lib.ListN.{length, take};
 ghost use Rattle.snapshot.specs.Limits.{keys};
@@ -31,10 +31,17 @@ pub(crate) fn newest_at<L: Records>(log: &L, key: u8, time: u64, last: u64) -> O
                     promise,
                 });
             }
-            promise = record.timestamp.saturating_sub(1);
+            promise = last_time_before(record.timestamp);
         }
     }
     None
+}
+
+// The last time at which a version is current, if the next one has this timestamp.
+fn last_time_before(timestamp: u64) -> u64
+    ensures { λ r. ⌜ r ≡ timestamp - 1 ⌝ }
+{
+    timestamp.saturating_sub(1)
 }
 
 // How many versions the list has of each key.
@@ -146,6 +153,13 @@ pub(crate) fn start<L: RecordList>(log: &mut L)
     }
 }
 
+// Is there room for so many records that are left, and so many more?
+fn has_room(room: usize, left: usize, more: usize) -> bool
+    ensures { λ r. ⌜ r ≡ leb (left + more) room ⌝ }
+{
+    left <= room && more <= room - left
+}
+
 // Commits the writes at a timestamp, and answers whether there was room for them; if not, nothing changes.
 pub(crate) fn write_all<L: RecordList>(
     log: &mut L,
@@ -161,8 +175,7 @@ pub(crate) fn write_all<L: RecordList>(
 {
     let excess = excess_versions(log, writes, depth);
     let left = count_left(log, excess);
-    let room = log.room();
-    if left > room || room - left < writes.len() {
+    if !has_room(log.room(), left, writes.len()) {
         return false;
     }
     drop_oldest(log, excess);

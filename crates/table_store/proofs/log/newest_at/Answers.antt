@@ -31,7 +31,7 @@ pub loop-place-again-then-record-key : need.loop-place-again-then-record-key
 loop-place-again-then-record-key g c =
     let rs = g .L·Records .records (c .args .log .now) in
     let is = c .at-record .ensures in
-    ap (λ e. newestAt (c .args .time) e (ofKey (c .args .key) (take (c .loop-place .place - 1) rs))) (c .saturating-sub-promise .ensures ∙ ap (λ r. r .timestamp - 1) is)
+    ap (λ e. newestAt (c .args .time) e (ofKey (c .args .key) (take (c .loop-place .place - 1) rs))) (c .last-time-before-promise .ensures ∙ ap (λ r. r .timestamp - 1) is)
     ∙ sym (looked-later (c .args .key) (c .args .time) (c .loop-place .promise) rs (c .loop-place .place) (c .loop-place-test .taken) (omega arith)
     (eq-eqb _ _ (sym (ap (λ r. r .key) is) ∙ c .if-record-key .taken))
     (omega (arith, ap (λ r. r .timestamp) is)))
