@@ -1,22 +1,22 @@
--- A new store has the meaning of one, and a commit leaves the meaning that a commit of depth 1 should, with room for it.
+-- A new store has the meaning of one, and writes leave the meaning that a commit of depth 1 should, with room for it.
 use mathlib.Core.Bool.{Bool, true, false, cond}
 use mathlib.Core.List.{List, [], _∷_}
-use mathlib.Core.Path.{_≡_, refl, sym, ap, subst, _∙_}
+use mathlib.Core.Path.{_≡_, refl, ap, subst, _∙_}
 use Prim.Native.Nat.{ℕ, zero, suc, _≤_}
 use native.Mathlib.Omega.{arith}
 use lib.Dec.{leb}
 use lib.ListN.{length, replicate}
 use Rattle.std.specs.declared.option.Option.{Option}
 use Rattle.std.specs.declared.option.Option.the-variants.{Some, None}
-use Rattle.std.specs.declared.result.Result.the-variants.{Ok}
-use Rattle.std.proofs.shelf.Tests.{cond-both, cond-true, le-leb}
+use Rattle.std.proofs.shelf.Tests.{cond-both, le-leb}
+use Rattle.snapshot.specs.Accounts.{risingFrom}
 use Rattle.snapshot.specs.Limits.{keys, isKey}
 use Rattle.snapshot.specs.declared.account.Write.{Write}
-use Rattle.store.specs.Meaning.{Meaning, versionOf, newStore, timestampFor, writtenTo, keptWith, withWrites, versionsBelow, versionsKept, ifRoom, commitAnswer, committed, afterCommit}
+use Rattle.store.specs.Meaning.{Meaning, versionOf, newStore, writtenTo, keptWith, withWrites, versionsBelow, versionsKept}
 use Rattle.store.specs.declared.version.Version.{Version}
 use Rattle.newest_store.specs.Newest.{newestMeaning, versionAt, versionWith}
 use Rattle.newest_store.specs.declared.newest.Newest.{Newest}
-use Rattle.store.proofs.Writes.{rising-writes, rising-keys, unwritten-past}
+use Rattle.store.proofs.Writes.{rising-keys, unwritten-past}
 
 abbrev newestOf : ℕ → List Version → Newest
 newestOf t vs = record { last = t; versions = vs }
@@ -55,26 +55,18 @@ kept-newest true t None v gone = refl
 kept-newest true t (Some x) v gone = refl
 kept-newest false t written v gone = rw (gone refl)
 
--- the writes were accepted with this timestamp, and each key has the version that was written to it
-module _ (clock t : ℕ) (ws : List Write) (s : Newest) (vs : List Version) (accepted : Ok t ≡ timestampFor clock ws (s .last)) (put : (k : ℕ) → versionAt k vs ≡ versionWith t (writtenTo k ws) (versionAt k (s .versions))) where
+-- the keys of the writes rise, and each key has the version that was written to it
+module _ (t : ℕ) (ws : List Write) (s : Newest) (vs : List Version) (rising : risingFrom 0 ws ≡ true) (put : (k : ℕ) → versionAt k vs ≡ versionWith t (writtenTo k ws) (versionAt k (s .versions))) where
   abbrev m : Meaning
   m = newestMeaning s
 
   kept-after : (k : ℕ) → newestMeaning (newestOf t vs) .kept k ≡ keptWith 1 t (writtenTo k ws) (m .kept k)
   kept-after k =
       ap (λ v. cond (isKey k) (v ∷ []) []) (put k)
-      ∙ kept-newest (isKey k) t (writtenTo k ws) (versionAt k (s .versions)) (λ past. unwritten-past k ws past (rising-keys 0 ws (rising-writes clock ws (s .last) t (sym accepted))))
+      ∙ kept-newest (isKey k) t (writtenTo k ws) (versionAt k (s .versions)) (λ past. unwritten-past k ws past (rising-keys 0 ws rising))
 
-  with-writes : newestMeaning (newestOf t vs) ≡ withWrites 1 t ws m
+  pub with-writes : newestMeaning (newestOf t vs) ≡ withWrites 1 t ws m
   with-writes = λ i. record { last = t; capacity = keys; kept = λ k. kept-after k i }
 
-  room-after : versionsKept (withWrites 1 t ws m) ≤ keys
-  room-after = let P : Meaning → Type 0 = λ n. versionsKept n ≤ keys in subst P with-writes (room (newestOf t vs))
-
-  pub commit-answer : Ok t ≡ commitAnswer 1 clock ws m
-  commit-answer =
-      sym (cond-true (leb (versionsKept (withWrites 1 t ws m)) keys) _ _ (le-leb _ _ room-after))
-      ∙ ap (ifRoom 1 ws m) accepted
-
-  pub commit-after : newestMeaning (newestOf t vs) ≡ afterCommit 1 clock ws m
-  commit-after = with-writes ∙ ap (committed 1 ws m) commit-answer
+  pub room-after : leb (versionsKept (withWrites 1 t ws m)) keys ≡ true
+  room-after = let P : Meaning → Type 0 = λ n. versionsKept n ≤ keys in le-leb _ _ (subst P with-writes (room (newestOf t vs)))

@@ -2,11 +2,11 @@
 ghost use mathlib.Core.Bool.{true};
 ghost use mathlib.Core.Path.{_≡_};
 ghost use Prim.Native.Nat.{ℕ};
-ghost use lib.Dec.{lit≤};
+ghost use lib.Dec.{leb, lit≤};
 ghost use lib.ListN.{length};
 ghost use Rattle.snapshot.specs.Accounts.{risingFrom};
 ghost use Rattle.snapshot.specs.Limits.{keys};
-ghost use Rattle.store.specs.Meaning.{newStore, writtenTo};
+ghost use Rattle.store.specs.Meaning.{newStore, versionsKept, withWrites, writtenTo};
 ghost use Rattle.newest_store.specs.Newest.{newestMeaning, versionAt, versionWith};
 use snapshot::account::Reading;
 use snapshot::account::Write;
@@ -39,6 +39,16 @@ impl Newest {
                 value: 0,
             }; KEYS as usize],
         }
+    }
+
+    // Commits the writes at this timestamp, for which there is always room.
+    fn write(&mut self, timestamp: u64, writes: &[Write])
+        requires { ⌜ risingFrom 0 (now writes) ≡ true ⌝ }
+        ensures meaning { λ _. ⌜ newestMeaning (now (self .exit)) ≡ withWrites 1 timestamp (now (writes .entry)) (newestMeaning (now (self .entry))) ⌝ }
+        ensures room { λ _. ⌜ leb (versionsKept (withWrites 1 timestamp (now (writes .entry)) (newestMeaning (now (self .entry))))) keys ≡ true ⌝ }
+    {
+        put_all(&mut self.versions, timestamp, writes);
+        self.last = timestamp;
     }
 }
 
@@ -75,8 +85,7 @@ pub impl Store for Newest as NewestStore {
 
     fn commit(&mut self, clock: u64, writes: &[Write]) -> Result<u64, Fault> {
         let timestamp = check_commit(clock, writes, self.last)?;
-        put_all(&mut self.versions, timestamp, writes);
-        self.last = timestamp;
+        self.write(timestamp, writes);
         Ok(timestamp)
     }
 
