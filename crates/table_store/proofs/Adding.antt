@@ -4,6 +4,7 @@ use mathlib.Core.Path.{_≡_, refl, sym, ap, _∙_}
 use Prim.Native.Nat.{ℕ, zero, suc, _+_, _≤_}
 use native.Mathlib.Numerals.{add-one}
 use native.Mathlib.Omega.{arith}
+use lib.Dec.{leb}
 use lib.ListN.{length, take}
 use Rattle.std.proofs.shelf.Lists.{append-nil, length-append, length-map, length-push, take-all}
 use Rattle.snapshot.specs.declared.account.Write.{Write}
@@ -47,3 +48,7 @@ module _ (depth t : ℕ) (ws : List Write) (rs : List Record) (e : ℕ → ℕ) 
       ap length (sym after-parts)
       ∙ length-append (dropFirsts e rs) (map (written t) ws)
       ∙ ap (λ n. length (dropFirsts e rs) + n) (length-map ws (written t))
+
+  -- whether there is room for what is left and the writes is whether there is room for the list
+  pub room-needed : (room n : ℕ) → n ≡ length (dropFirsts e rs) → leb (n + length ws) room ≡ leb (length (afterWrites depth t ws rs)) room
+  room-needed room n left = ap (λ k. leb (k + length ws) room) left ∙ ap (λ k. leb k room) (sym after-length)

@@ -6,7 +6,7 @@ use native.Mathlib.Omega.{arith}
 use lib.Dec.{leb}
 use lib.ListN.{length}
 use Rattle.std.proofs.shelf.Tests.{false≢true, true≢false, leb-true}
-use Rattle.table_store.proofs.Adding.{room-for-all, after-length, after-parts}
+use Rattle.table_store.proofs.Adding.{room-for-all, room-needed, after-parts}
 use Rattle.table_store.specs.Records.{withWritten, written}
 use Rattle.table_store.proofs.log.write_all.Needs as need
 
@@ -14,9 +14,8 @@ pub returns-then-not-has-room : need.returns-then-not-has-room
 returns-then-not-has-room g c =
     let rs = g .L·Records .records (c .args .log .now) in
     let ws = c .args .writes .now in
-    let long = after-length (c .args .depth) (c .args .timestamp) ws rs _ (c .excess-versions-excess .ensures) in
     record {
-      answer = c .if-not-has-room .ensures tt ∙ ap (λ n. leb (n + length ws) (c .room .result)) (c .count-left-left .ensures) ∙ ap (λ n. leb n (c .room .result)) (sym long) ∙ ap (leb _) (c .room .ensures);
+      answer = c .if-not-has-room .ensures tt ∙ room-needed (c .args .depth) (c .args .timestamp) ws rs _ (c .excess-versions-excess .ensures) (c .room .result) _ (c .count-left-left .ensures) ∙ ap (leb _) (c .room .ensures);
       after = λ e. absurd (false≢true e);
       unchanged = λ _. refl;
       places = refl;
@@ -31,11 +30,10 @@ returns g c =
     let excess = c .excess-versions-excess .ensures in
     let room = g .L·RecordList .places (c .args .log .now) in
     let left = g .L·Records .records (c .drop-oldest .last .log) in
-    let long = after-length (c .args .depth) t ws rs _ excess in
     let fits : length left + length ws ≤ room =
     omega (arith, ap length (c .drop-oldest .ensures .after), c .count-left-left .ensures, c .room .ensures, leb-true _ _ (sym (c .if-not-has-room .ensures tt))) in
     record {
-      answer = c .if-not-has-room .ensures tt ∙ ap (λ n. leb (n + length ws) (c .room .result)) (c .count-left-left .ensures) ∙ ap (λ n. leb n (c .room .result)) (sym long) ∙ ap (leb _) (c .room .ensures);
+      answer = c .if-not-has-room .ensures tt ∙ room-needed (c .args .depth) t ws rs _ excess (c .room .result) _ (c .count-left-left .ensures) ∙ ap (leb _) (c .room .ensures);
       after = λ _.
           c .append .ensures .after
           ∙ ap (λ n. withWritten n t left ws) (c .drop-oldest .ensures .places)
