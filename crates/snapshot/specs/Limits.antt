@@ -27,6 +27,13 @@ writeKeys = 8
 abbrev pub chainReadings : ℕ
 chainReadings = 32
 
+-- the fewest and the most records of a table store's memory
+abbrev pub leastRecords : ℕ
+leastRecords = 64
+
+abbrev pub mostRecords : ℕ
+mostRecords = 1024
+
 -- a time is 0 to the open end
 abbrev pub isTime : ℕ → Bool
 isTime t = leb t openEnd

@@ -8,7 +8,7 @@ use lib.Dec.{leb}
 use lib.ListN.{length}
 use Rattle.snapshot.specs.declared.account.Write.{Write}
 use Rattle.store.specs.Meaning.{Meaning, prunedAt, versionsKept, withWrites}
-use Rattle.table_store.specs.Tables.{HeldIn, isTableSize, tableMeaning}
+use Rattle.table_store.specs.Tables.{HeldIn, isTableSize, tableDepth, tableMeaning}
 use Rattle.table_store.specs.declared.table.Table.{Table}
 
 abbrev pub meaningOf : Table → Meaning
@@ -25,8 +25,8 @@ LeavesUnfit before after =
 
 -- the writes were taken at t, or there was no room for them and nothing has changed
 pub record Written (before after : Table) (t : ℕ) (ws : List Write) (roomy : Bool) : Type 0 where
-  pub answer : roomy ≡ leb (versionsKept (withWrites 16 t ws (meaningOf before))) (meaningOf before .capacity)
-  pub meaning : meaningOf after ≡ cond roomy (withWrites 16 t ws (meaningOf before)) (meaningOf before)
+  pub answer : roomy ≡ leb (versionsKept (withWrites tableDepth t ws (meaningOf before))) (meaningOf before .capacity)
+  pub meaning : meaningOf after ≡ cond roomy (withWrites tableDepth t ws (meaningOf before)) (meaningOf before)
   pub unchanged : roomy ≡ false → after ≡ before
   pub laid : HoldsVersions after
   pub alone : LeavesUnfit before after

@@ -9,7 +9,7 @@ use Rattle.std.specs.declared.result.Result.{Result}
 use Rattle.std.specs.declared.result.Result.the-variants.{Ok, Err}
 use Rattle.std.specs.shelf.Lists.{All}
 use Rattle.snapshot.specs.Accounts.{all, risingFrom}
-use Rattle.snapshot.specs.Limits.{keys, isKey}
+use Rattle.snapshot.specs.Limits.{keys, leastRecords, mostRecords, isKey}
 use Rattle.snapshot.specs.declared.account.Write.{Write}
 use Rattle.snapshot.specs.declared.fault.Fault.{Fault}
 use Rattle.snapshot.specs.declared.fault.Refusal.the-variants.{UnfitMemory}
@@ -17,9 +17,13 @@ use Rattle.store.specs.Meaning.{Meaning, newStore, storeFault}
 use Rattle.table_store.specs.Records.{firstRecords, noRecord, ofKey}
 use Rattle.table_store.specs.declared.record.Record.{Record}
 
+-- the most versions of one key
+abbrev pub tableDepth : ℕ
+tableDepth = 16
+
 -- which numbers of records are fit for a table
 abbrev pub isTableSize : ℕ → Bool
-isTableSize n = leb 64 n && leb n 1024
+isTableSize n = leb leastRecords n && leb n mostRecords
 
 -- how many records there is room for: all, or none in unfit memory
 abbrev pub roomIn : List Record → ℕ

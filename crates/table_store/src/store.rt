@@ -7,7 +7,7 @@ ghost use Rattle.std.specs.Vec.{made, refused};
 ghost use Rattle.store.specs.Meaning.{newStore, newestAt, commitAnswer, afterCommit, afterPrune};
 ghost use Rattle.snapshot.specs.Limits.{isKey};
 ghost use Rattle.table_store.specs.Stores.{HoldsVersions, LeavesUnfit, Pruned, Written, meaningOf};
-ghost use Rattle.table_store.specs.Tables.{MadeNew, Takes, capacityOf, isTableSize, memoryCheck};
+ghost use Rattle.table_store.specs.Tables.{MadeNew, Takes, capacityOf, isTableSize, memoryCheck, tableDepth};
 use crate::log::drop_outdated;
 use crate::log::newest_at;
 use crate::log::start;
@@ -121,19 +121,19 @@ pub impl<'a> Reads for Table<'a> as TableReads {
 
 // Each call does to the meaning what the trait says; `laid` and `alone` say what it does to the records.
 pub impl<'a> Store for Table<'a> as TableStore {
-    ghost depth = { record { versions = 16; notNone = lit≤ tt } };
+    ghost depth = { record { versions = tableDepth; notNone = lit≤ tt } };
 
     const DEPTH: usize = 16;
 
     fn most_versions() -> usize
-        ensures { λ r. ⌜ r ≡ 16 ⌝ }
+        ensures { λ r. ⌜ r ≡ tableDepth ⌝ }
     {
         Self::DEPTH
     }
 
     fn commit(&mut self, clock: u64, writes: &[Write]) -> Result<u64, Fault>
-        ensures answer { λ r. ⌜ r ≡ commitAnswer 16 clock (now (writes .entry)) (meaningOf (now (self .entry))) ⌝ }
-        ensures after { λ _. ⌜ meaningOf (now (self .exit)) ≡ afterCommit 16 clock (now (writes .entry)) (meaningOf (now (self .entry))) ⌝ }
+        ensures answer { λ r. ⌜ r ≡ commitAnswer tableDepth clock (now (writes .entry)) (meaningOf (now (self .entry))) ⌝ }
+        ensures after { λ _. ⌜ meaningOf (now (self .exit)) ≡ afterCommit tableDepth clock (now (writes .entry)) (meaningOf (now (self .entry))) ⌝ }
         ensures unchanged { λ r. ⌜ refused r (λ _. now (self .exit) ≡ now (self .entry)) ⌝ }
         ensures laid { λ r. ⌜ made r (λ _. HoldsVersions (now (self .exit))) ⌝ }
         ensures alone { λ _. ⌜ LeavesUnfit (now (self .entry)) (now (self .exit)) ⌝ }
