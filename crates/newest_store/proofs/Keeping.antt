@@ -16,6 +16,7 @@ use Rattle.store.specs.Meaning.{Meaning, versionOf, newStore, writtenTo, keptWi
 use Rattle.store.specs.declared.version.Version.{Version}
 use Rattle.newest_store.specs.Newest.{newestMeaning, versionAt, versionWith}
 use Rattle.newest_store.specs.declared.newest.Newest.{Newest}
+use Rattle.store.proofs.Repeats.{repeated-everywhere}
 use Rattle.store.proofs.Writes.{rising-keys, unwritten-past}
 
 abbrev newestOf : ℕ → List Version → Newest
@@ -23,17 +24,12 @@ newestOf t vs = record { last = t; versions = vs }
 
 -- A new store.
 
-zero-version : (n k : ℕ) → versionAt k (replicate n (versionOf 0 0)) ≡ versionOf 0 0
-zero-version zero k = refl
-zero-version (suc n) zero = refl
-zero-version (suc n) (suc k) = zero-version n k
-
 pub new-meaning : newestMeaning (newestOf 0 (replicate keys (versionOf 0 0))) ≡ newStore keys
 new-meaning =
     λ i. record {
       last = 0;
       capacity = keys;
-      kept = λ k. cond (isKey k) (zero-version keys k i ∷ []) [];
+      kept = λ k. cond (isKey k) (repeated-everywhere (versionOf 0 0) keys k i ∷ []) [];
     }
 
 -- Room: one version of each key.

@@ -1,5 +1,5 @@
 -- A store after any calls on a new one keeps the laws.
-use mathlib.Core.Bool.{Bool, true, cond, _&&_}
+use mathlib.Core.Bool.{true}
 use mathlib.Core.List.{List, [], _∷_, _++_, append-assoc}
 use mathlib.Core.Path.{_≡_, sym, subst}
 use Prim.Native.Nat.{ℕ, _<_, _≤_}
@@ -7,6 +7,7 @@ use native.Mathlib.Omega.{arith}
 use denote.Ref.{now}
 use lib.ListN.{getD}
 use Rattle.std.specs.Options.{okOr}
+use Rattle.std.specs.Results.{andOther}
 use Rattle.std.specs.declared.option.Option.{Option}
 use Rattle.std.specs.declared.option.Option.the-variants.{Some, None}
 use Rattle.std.specs.declared.result.Result.the-variants.{Ok, Err}
@@ -16,10 +17,10 @@ use Rattle.std.proofs.shelf.Results.{cases-at-some, cases-at-none}
 use Rattle.snapshot.specs.Limits.{keys, isKey, isTime}
 use Rattle.snapshot.specs.declared.account.Reading.{Reading}
 use Rattle.snapshot.specs.declared.account.Write.{Write}
-use Rattle.snapshot.specs.declared.fault.Refusal.the-variants.{OutOfRange, VersionGone}
+use Rattle.snapshot.specs.declared.fault.Refusal.the-variants.{VersionGone}
 use Rattle.store.specs.Calls.{answerOf, afterCall, answersOf, afterCalls}
 use Rattle.store.specs.Laws.{Rises, HoldsAt, versionIn, givenBy, givenByAll, AnswerLaw, KeyLaw, CommitLaw, StoreLaw, everHad, KeepsLaws}
-use Rattle.store.specs.Meaning.{Meaning, versionOf, newStore, questionFault, newestAt, versionAnswer, commitAnswer, afterPrune}
+use Rattle.store.specs.Meaning.{Meaning, versionOf, newStore, questionFault, inRange, newestAt, versionAnswer, commitAnswer, afterPrune}
 use Rattle.store.specs.declared.calls.StoreCall.{StoreCall}
 use Rattle.store.specs.declared.calls.StoreCall.the-variants as call
 use Rattle.store.specs.declared.version.Version.{Version}
@@ -28,11 +29,11 @@ use Rattle.store.proofs.Standing.{KeyStands, Stands, new-stands, accepted, not
 
 -- What version's answer says of newestAt's.
 
-answered : (k : ℕ) (ok : Bool) (o : Option Reading) (r : Reading) → cond ok (okOr o (questionFault VersionGone k)) (Err (questionFault OutOfRange k)) ≡ Ok r → o ≡ Some r
-answered k ok o r e = grind arith
+answered : (k s : ℕ) (o : Option Reading) (r : Reading) → andOther (inRange k s) (okOr o (questionFault VersionGone k)) ≡ Ok r → o ≡ Some r
+answered k s o r e = grind arith
 
-refused-gone : (k : ℕ) (ok : Bool) (o : Option Reading) → cond ok (okOr o (questionFault VersionGone k)) (Err (questionFault OutOfRange k)) ≡ Err (questionFault VersionGone k) → o ≡ None
-refused-gone k ok o e = grind arith
+refused-gone : (k s : ℕ) (o : Option Reading) → andOther (inRange k s) (okOr o (questionFault VersionGone k)) ≡ Err (questionFault VersionGone k) → o ≡ None
+refused-gone k s o e = grind arith
 
 -- One key.
 
@@ -46,7 +47,7 @@ module _ (m : Meaning) (ever : List Version) (k : ℕ) (key : isKey k ≡ true) 
 
   answer-law : (s : ℕ) (r : Reading) → versionAnswer m k s ≡ Ok r → AnswerLaw m ever k s r
   answer-law s r e =
-      let shows = cases-at-some (Later s (m .kept k)) (Shows s (m .last) (m .kept k)) r (answered k (isKey k && isTime s) _ r e) (newest-kept s) in
+      let shows = cases-at-some (Later s (m .kept k)) (Shows s (m .last) (m .kept k)) r (answered k s _ r e) (newest-kept s) in
       record {
         newestKept = shows .newest;
         current = λ u from to. holds-in-all u ever (m .kept k) (versionIn r) (stands .suffix) (stands .rises) (shows .current u from to);
@@ -59,7 +60,7 @@ module _ (m : Meaning) (ever : List Version) (k : ℕ) (key : isKey k ≡ true) 
   -- a refusal as gone says that every kept version is later
   all-later : (s : ℕ) → versionAnswer m k s ≡ Err (questionFault VersionGone k) → Later s (m .kept k)
   all-later s e =
-      cases-at-none (Later s (m .kept k)) (Shows s (m .last) (m .kept k)) (refused-gone k (isKey k && isTime s) _ e) (newest-kept s)
+      cases-at-none (Later s (m .kept k)) (Shows s (m .last) (m .kept k)) (refused-gone k s _ e) (newest-kept s)
 
   -- the version that was current then is not kept
   dropped : (s : ℕ) → Later s (m .kept k) → (v : Version) × HoldsAt s v ever × (Has (m .kept k) v → ⊥)

@@ -3,3 +3,4 @@ pub mod Versions
 pub mod Standing
 pub mod Keeping
 pub mod Writes
+pub mod Repeats

@@ -5,19 +5,14 @@ use mathlib.Core.Path.{_≡_, refl}
 use Prim.Native.Nat.{ℕ, suc, _<_, _≤_}
 use native.Mathlib.Omega.{arith}
 use lib.Dec.{leb}
-use lib.ListN.{length}
 use Rattle.std.specs.declared.option.Option.the-variants.{None}
-use Rattle.std.specs.declared.result.Result.the-variants.{Ok}
 use Rattle.std.specs.shelf.Lists.{All}
 use Rattle.std.proofs.shelf.Tests.{and-parts}
 use Rattle.std.proofs.shelf.Ways.{tells}
 use Rattle.snapshot.specs.Accounts.{risingFrom}
 use Rattle.snapshot.specs.Limits.{keys, isKey}
 use Rattle.snapshot.specs.declared.account.Write.{Write}
-use Rattle.store.specs.Meaning.{timestampFor, writtenTo}
-
-pub rising-writes : (clock : ℕ) (ws : List Write) (last t : ℕ) → timestampFor clock ws last ≡ Ok t → risingFrom 0 ws ≡ true
-rising-writes clock ws last t e = grind (arith, tells)
+use Rattle.store.specs.Meaning.{writtenTo}
 
 pub rising-later : (least : ℕ) (w : Write) (ws : List Write) → risingFrom least (w ∷ ws) ≡ true → risingFrom (suc (w .key)) ws ≡ true
 rising-later least w ws e = and-parts (leb least (w .key) && isKey (w .key)) (risingFrom (suc (w .key)) ws) e .1
@@ -40,6 +35,3 @@ unwritten-past k [] past below = refl
 unwritten-past k (w ∷ ws) past below =
     let rest = unwritten-past k ws past (below .1) in
     grind (arith, tells, below .0)
-
-pub some-write : (clock : ℕ) (ws : List Write) (last t : ℕ) → timestampFor clock ws last ≡ Ok t → 1 ≤ length ws
-some-write clock ws last t e = grind (arith, tells)

@@ -5,6 +5,7 @@ use Prim.Native.Nat.{ℕ, zero, suc, min, max, _+_, _-_, _≤_}
 use lib.Dec.{leb, eqb}
 use lib.ListN.{length, drop}
 use Rattle.std.specs.Options.{okOr, orOther}
+use Rattle.std.specs.Results.{andOther}
 use Rattle.std.specs.declared.option.Option.{Option}
 use Rattle.std.specs.declared.option.Option.the-variants.{Some, None}
 use Rattle.std.specs.declared.result.Result.{Result}
@@ -62,14 +63,13 @@ newestAt s last [] = None
 newestAt s last (v ∷ vs) =
     orOther (newestAt s last vs) (cond (leb (v .timestamp) s) (Some (readingOf v (endBefore vs last))) None)
 
+-- there is such a key and such a time
 abbrev pub inRange : ℕ → ℕ → Result (Unit {0}) Fault
 inRange k s = cond (isKey k && isTime s) (Ok tt) (Err (questionFault OutOfRange k))
 
 abbrev pub versionAnswer : Meaning → ℕ → ℕ → Result Reading Fault
 versionAnswer m k s =
-    cond (isKey k && isTime s)
-    (okOr (newestAt s (m .last) (m .kept k)) (questionFault VersionGone k))
-    (Err (questionFault OutOfRange k))
+    andOther (inRange k s) (okOr (newestAt s (m .last) (m .kept k)) (questionFault VersionGone k))
 
 -- Commit.
 

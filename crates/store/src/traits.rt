@@ -39,7 +39,7 @@ pub trait Store: Reads {
         ensures after { λ _. ⌜ Self·Reads .meaning (now (self .exit)) ≡ afterCommit (depth .versions) clock (now (writes .entry)) (Self·Reads .meaning (now (self .entry))) ⌝ }
         ensures unchanged { λ r. ⌜ refused r (λ _. now (self .exit) ≡ now (self .entry)) ⌝ };
 
-    // Drops of each key the versions older than the newest one that is not above the horizon.
+    // Drops of each key the versions older than the newest one that is above neither the horizon nor last.
     fn prune(&mut self, horizon: u64)
         ensures after { λ _. ⌜ Self·Reads .meaning (now (self .exit)) ≡ afterPrune horizon (Self·Reads .meaning (now (self .entry))) ⌝ };
 }

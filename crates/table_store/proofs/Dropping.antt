@@ -1,7 +1,7 @@
 -- Dropping the first records of each key, walked from the front: what is left to look at, and what stays in place.
 use mathlib.Core.Bool.{true, false}
 use mathlib.Core.List.{List, [], _∷_, _++_, append-assoc}
-use mathlib.Core.Path.{_≡_, refl, sym, ap, transport, _∙_}
+use mathlib.Core.Path.{_≡_, refl, sym, ap, _∙_}
 use Prim.Native.Nat.{ℕ, _+_, _-_, _<_, _≤_}
 use native.Mathlib.Nat.{add-zero}
 use native.Mathlib.Numerals.{add-one}
@@ -17,10 +17,6 @@ use Rattle.table_store.specs.declared.record.Record.{Record}
 -- functions that agree everywhere are equal
 pub same-function : {f g : ℕ → ℕ} → ((k : ℕ) → f k ≡ g k) → f ≡ g
 same-function p i k = p k i
-
--- what holds of two values holds of their equals
-pub back : {X Y : Type 0} (P : X → Y → Type 0) {x x′ : X} {y y′ : Y} → x ≡ x′ → y ≡ y′ → P x′ y′ → P x y
-back P p q h = transport (λ i. P (sym p i) (sym q i)) h
 
 -- where there is none to take, nothing changes
 one-less-none : (e : ℕ → ℕ) (key : ℕ) → ltb 0 (e key) ≡ false → (k : ℕ) → oneLess e key k ≡ e k

@@ -312,9 +312,6 @@ unfit-newest mem n last k s unfit key =
     (ap (newestAt s last) vs
     ∙ ap (λ b. orOther None (cond b (Some (readingOf (versionOf 0 0) last)) None)) (le-leb 0 s (omega arith)))
 
-pub fit-newest : (mem : List Record) (n last k s : ℕ) → isTableSize (length mem) ≡ true → newestAt s last (ofKey k (listedIn mem n)) ≡ newestAt s last (tableMeaning mem n last .kept k)
-fit-newest mem n last k s fit = ap (λ rs. newestAt s last (ofKey k rs)) (sym (shown-fit mem n fit))
-
 -- what a fit table's soundness says of the zeros
 pub sound-zeros : (mem : List Record) (n last : ℕ) → soundTable mem n last ≡ true → isTableSize (length mem) ≡ true → zerosAfter mem n ≡ true
 sound-zeros mem n last s fit = sym (cond-true (isTableSize (length mem)) (zerosAfter mem n) true fit) ∙ sound-parts mem n last s .zeros

@@ -1,11 +1,11 @@
 -- Each record goes, stays where it is, or moves to the front of the gap.
 use mathlib.Core.Bool.{true}
-use mathlib.Core.Path.{_≡_, refl, sym, subst, _∙_}
+use mathlib.Core.Path.{_≡_, refl, sym, subst, subst₂, _∙_}
 use mathlib.Core.List.{List}
 use Prim.Native.Nat.{ℕ, _+_, _<_}
 use native.Mathlib.Omega.{arith}
 use lib.ListN.{length}
-use Rattle.table_store.proofs.Dropping.{back, Dropping, none-dropped, all-dropped, goes, moves, stays}
+use Rattle.table_store.proofs.Dropping.{Dropping, none-dropped, all-dropped, goes, moves, stays}
 use Rattle.table_store.specs.PerKeys.{numberFor}
 use Rattle.table_store.specs.declared.record.Record.{Record}
 use Rattle.table_store.proofs.log.drop_oldest.Needs as need
@@ -41,20 +41,20 @@ loop-place-again g c =
     elim (c .if-not-take-one .came) [
       | then-not-take-one w ↦
           let none = sym answer ∙ w .if-not-take-one .taken in
-          back Kept (w .log-is) (w .left-is)
+          subst₂ Kept (sym (w .log-is)) (sym (w .left-is))
           (elim (w .if-left-place .came) [
             | then-left-place v ↦
-                back Kept (v .log-is) refl (
+                subst₂ Kept (sym (v .log-is)) refl (
                   subst Shown (sym (v .put .ensures .after)) (moves rs first before after xs n i d lt r is less (v .if-left-place .taken) none),
                   v .put .ensures .places ∙ c .loop-place .inv .1,
                   λ t. v .put .ensures .tidy (c .loop-place .inv .2 t),
                 )
             | else-left-place v ↦
-                back Kept (v .log-is) refl (stays rs first before after xs n i d lt r is less (v .if-left-place .left) none, c .loop-place .inv .1, c .loop-place .inv .2)
+                subst₂ Kept (sym (v .log-is)) refl (stays rs first before after xs n i d lt r is less (v .if-left-place .left) none, c .loop-place .inv .1, c .loop-place .inv .2)
           ])
       | else-not-take-one w ↦
           let some = sym answer ∙ w .if-not-take-one .left in
-          back Kept (w .log-is) (w .left-is) (goes rs first before after xs n i d lt r is less some, c .loop-place .inv .1, c .loop-place .inv .2)
+          subst₂ Kept (sym (w .log-is)) (sym (w .left-is)) (goes rs first before after xs n i d lt r is less some, c .loop-place .inv .1, c .loop-place .inv .2)
     ]
 
 pub returns : need.returns
