@@ -2,7 +2,7 @@
 use Rattle.std.proofs.Common.{◌≡◌, ℕ, ◌+◌, ◌*◌, ◌/◌, ◌<◌, ◌≤◌, true, List, [], ◌∷◌, ◌++◌, map, length, get_or, take, drop, sym, refl, ap, ◌∙◌, arith}
 use Rattle.std.proofs.ByRecursion.{All-push}
 use Rattle.std.proofs.lemmas.List.{append_assoc, append-nil, drop_all, flat_map_more, length-append, length-drop, length-map, map_push}
-use Rattle.std.specs.List.{flat_map, AllByRecursion as All}
+use Rattle.std.specs.List.{flat_map, AllByRecursion}
 use Rattle.snapshot.specs.Accounts.{Account, head_of, lawful}
 use Rattle.snapshot.specs.declared.account.AccountHead.{AccountHead}
 use Rattle.book.specs.Books.{Listed, ListedBehind, Stands, head_line}
@@ -16,7 +16,7 @@ use Rattle.book.proofs.RoundTrip.{takes_its_size}
 -- the bytes before this place are those of lawful accounts with these heads
 pub record SoFar (book : List ℕ) (heads : List AccountHead) (start : ℕ) : Type 0 where
   pub accounts : List Account
-  pub lawfully : All (λ a. lawful a ≡ true) accounts
+  pub lawfully : AllByRecursion (λ a. lawful a ≡ true) accounts
   pub listed : heads ≡ map head_of accounts
   pub read : book ≡ flat_map bytes_of accounts ++ drop start book
   pub place : start ≡ length (flat_map bytes_of accounts)

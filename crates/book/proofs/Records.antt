@@ -1,7 +1,7 @@
 -- Records written read back as they were, and bytes read as records are written as they were: once for both kinds.
 use Rattle.std.proofs.Common.{◌≡◌, ℕ, zero, suc, ◌+◌, ◌*◌, ◌^◌, ◌<◌, ◌≤◌, List, [], ◌∷◌, ◌++◌, length, take, drop, refl, ap, ap₂, append_assoc, mul-zero, arith, length-drop, take-add}
 use Rattle.std.proofs.lemmas.List.{drop_at}
-use Rattle.std.specs.List.{flat_map, AllByRecursion as All}
+use Rattle.std.specs.List.{flat_map, AllByRecursion}
 use Rattle.std.specs.Int.Digits.{AllBelowBase}
 use Rattle.snapshot.specs.declared.account.ChainReading.{ChainReading}
 use Rattle.snapshot.specs.declared.account.Write.{Write}
@@ -18,7 +18,7 @@ length_records one size (suc n) bs = ap suc (length_records one size n (drop siz
 -- both kinds of record: how one is packed, how one is read, and how many bytes it takes
 module _ {X : Type 0} (pack : X → List ℕ) (one : List ℕ → X) (size : ℕ) where
   -- Fit: what has to hold of a record for it to read back
-  records_back : (Fit : X → Type 0) → ((x : X) → length (pack x) ≡ size) → ((x : X) (rest : List ℕ) → Fit x → one (pack x ++ rest) ≡ x) → (xs : List X) (rest : List ℕ) → All Fit xs → records_from one size (length xs) (flat_map pack xs ++ rest) ≡ xs
+  records_back : (Fit : X → Type 0) → ((x : X) → length (pack x) ≡ size) → ((x : X) (rest : List ℕ) → Fit x → one (pack x ++ rest) ≡ x) → (xs : List X) (rest : List ℕ) → AllByRecursion Fit xs → records_from one size (length xs) (flat_map pack xs ++ rest) ≡ xs
   records_back Fit sized back [] rest fit = refl
   records_back Fit sized back (x ∷ xs) rest fit =
       rw (append_assoc (pack x) (flat_map pack xs) rest, drop_at (pack x) (flat_map pack xs ++ rest) size (sized x))
@@ -57,7 +57,7 @@ reading_written bs long small =
 pub length_readings : (rs : List ChainReading) → length (flat_map reading_bytes rs) ≡ 22 * length rs
 length_readings = length_joined reading_bytes 22 (λ _. refl)
 
-pub readings_back : (rs : List ChainReading) (rest : List ℕ) → All Held rs → records_from reading_from 22 (length rs) (flat_map reading_bytes rs ++ rest) ≡ rs
+pub readings_back : (rs : List ChainReading) (rest : List ℕ) → AllByRecursion Held rs → records_from reading_from 22 (length rs) (flat_map reading_bytes rs ++ rest) ≡ rs
 readings_back = records_back reading_bytes reading_from 22 Held (λ _. refl) reading_back
 
 pub readings_written : (n : ℕ) (bs : List ℕ) → 22 * n ≤ length bs → AllBelowBase 256 (take (22 * n) bs) → flat_map reading_bytes (records_from reading_from 22 n bs) ≡ take (22 * n) bs
@@ -74,7 +74,7 @@ write_written bs long small = byte_then 0 4 bs (omega arith) refl (bytes_at 5 1 
 pub length_writes : (ws : List Write) → length (flat_map write_bytes ws) ≡ 5 * length ws
 length_writes = length_joined write_bytes 5 (λ _. refl)
 
-pub writes_back : (ws : List Write) (rest : List ℕ) → All (λ w. w.value < 2 ^ 32) ws → records_from write_from 5 (length ws) (flat_map write_bytes ws ++ rest) ≡ ws
+pub writes_back : (ws : List Write) (rest : List ℕ) → AllByRecursion (λ w. w.value < 2 ^ 32) ws → records_from write_from 5 (length ws) (flat_map write_bytes ws ++ rest) ≡ ws
 writes_back = records_back write_bytes write_from 5 (λ w. w.value < 2 ^ 32) (λ _. refl) write_back
 
 pub writes_written : (n : ℕ) (bs : List ℕ) → 5 * n ≤ length bs → AllBelowBase 256 (take (5 * n) bs) → flat_map write_bytes (records_from write_from 5 n bs) ≡ take (5 * n) bs

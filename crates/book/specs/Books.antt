@@ -1,6 +1,6 @@
 -- The reading of a whole book, account after account from its first byte.
 use Rattle.std.specs.Prelude.{◌≡◌, ℕ, ◌+◌, true, List, [], ◌∷◌, ◌++◌, map, length, drop, Ok, Err, codes, decimal, Result}
-use Rattle.std.specs.List.{flat_map, AllByRecursion as All}
+use Rattle.std.specs.List.{flat_map, AllByRecursion}
 use Rattle.snapshot.specs.Accounts.{Account, head_of, lawful}
 use Rattle.snapshot.specs.Refusals.{book_fault, number_of}
 use Rattle.snapshot.specs.Shown.{head_text, spaced}
@@ -37,7 +37,7 @@ Ends book read (Bad f) = (book ≡ read ++ drop (length read) book) × Refused b
 -- order, and the reading ended behind them.
 pub record Listed (book : List ℕ) (heads : List AccountHead) (ending : Ending) : Type 0 where
   pub accounts : List Account
-  pub lawfully : All (λ a. lawful a ≡ true) accounts
+  pub lawfully : AllByRecursion (λ a. lawful a ≡ true) accounts
   pub listed : heads ≡ map head_of accounts
   pub ends : Ends book (flat_map bytes_of accounts) ending
 

@@ -1,6 +1,6 @@
 -- What writing and reading mean to each other: written accounts read back, and only written ones are accepted.
 use Rattle.std.specs.Prelude.{◌≡◌, ℕ, ◌+◌, ◌^◌, ◌<◌, ◌≤◌, true, List, ◌++◌, length, drop, Ok, Err, Result}
-use Rattle.std.specs.List.{AllByRecursion as All}
+use Rattle.std.specs.List.{AllByRecursion}
 use Rattle.snapshot.specs.Accounts.{Account, account_of, lawful}
 use Rattle.snapshot.specs.declared.account.ChainReading.{ChainReading}
 use Rattle.snapshot.specs.declared.account.Write.{Write}
@@ -11,8 +11,8 @@ use Rattle.book.specs.Format.{bytes_of, size_of}
 
 -- each value has at most 32 bits, as the types of the code say
 pub record ValuesFit (a : Account) : Type 0 where
-  pub readings : All (λ r. r.reading.value < 2 ^ 32) a.readings
-  pub writes : All (λ w. w.value < 2 ^ 32) a.writes
+  pub readings : AllByRecursion (λ r. r.reading.value < 2 ^ 32) a.readings
+  pub writes : AllByRecursion (λ w. w.value < 2 ^ 32) a.writes
 
 -- the account's bytes read back as that account, at any place of any book, into any lists that have room
 abbrev pub ReadsBackAnywhere : Account → Type 0

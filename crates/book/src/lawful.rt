@@ -1,6 +1,6 @@
 // Whether an account is lawful: the rules that its five numbers, readings and writes keep.
 ghost use Rattle.std.specs.Prelude.{◌≡◌, ◌^◌, ◌<◌, true, ◌&&◌, nat_lt};
-ghost use Rattle.std.specs.List.{AllByRecursion as All};
+ghost use Rattle.std.specs.List.{AllByRecursion};
 ghost use Rattle.snapshot.specs.Accounts.{Agrees, agreed_ends, all, few_enough, lawful, sound_reading, sound_timestamp, greatest_timestamp, least_promise};
 ghost use Rattle.snapshot.specs.Intervals.{from_to};
 ghost use Rattle.book.specs.Theorems.{ValuesFit};
@@ -39,7 +39,7 @@ fn are_few(readings: &[ChainReading], writes: &[Write]) -> bool
 // Is each reading in range: worker, key, and timestamp up to a promise before the open end?
 fn are_sound(readings: &[ChainReading]) -> bool
     ensures value { result ≡ all sound_reading readings.now }
-    ensures fits { result ≡ true → All (λ x. x.reading.value < 2 ^ 32) readings.now }
+    ensures fits { result ≡ true → AllByRecursion (λ x. x.reading.value < 2 ^ 32) readings.now }
 {
     for reading in readings {
         if !is_sound(*reading) {

@@ -101,9 +101,9 @@ impl Packed for Write {
 
 // Puts records one after another into the buffer from a place on, and answers the place after them.
 pub(crate) fn put_all<T: Packed>(records: &[T], buffer: &mut [u8], at: usize) -> usize
-    requires { at + size * length records.now ≤ length buffer.old }
-    ensures place { result ≡ at + size * length records.now }
-    ensures bytes { buffer.new ≡ placed at (flat_map pack records.now) buffer.old }
+    requires { at + T.size * length records.now ≤ length buffer.old }
+    ensures place { result ≡ at + T.size * length records.now }
+    ensures bytes { buffer.new ≡ placed at (flat_map T.pack records.now) buffer.old }
 {
     let mut place = at;
     for record in records {
@@ -115,8 +115,8 @@ pub(crate) fn put_all<T: Packed>(records: &[T], buffer: &mut [u8], at: usize) ->
 
 // Fills the list with the records that stand one after another from a place on.
 pub(crate) fn get_all<T: Packed + Drop>(bytes: &[u8], at: usize, into: &mut [T])
-    requires { at + size * length into.old ≤ length bytes.now }
-    ensures { into.new ≡ records_from unpack size (length into.old) (drop at bytes.now) }
+    requires { at + T.size * length into.old ≤ length bytes.now }
+    ensures { into.new ≡ records_from T.unpack T.size (length into.old) (drop at bytes.now) }
 {
     let mut place = at;
     for record in into.iter_mut() {

@@ -1,6 +1,6 @@
 -- The caches that hold keep their laws.
 use Rattle.std.proofs.Common.{◌≡◌, ℕ, ◌-◌, true, eqb, ltb, [], ◌∷◌, ◌++◌, length, Some, None, Option, refl, inl, inr, arith}
-use Rattle.std.specs.List.{ContainsAt as Has, AllByRecursion as All}
+use Rattle.std.specs.List.{ContainsAt as Has, AllByRecursion}
 use Rattle.std.proofs.ByRecursion.{All-drop, all_has_itself, All-push, All-weaker, has_append_right}
 use Rattle.std.proofs.lemmas.Bool.{cond_both, eqb-true}
 use Rattle.std.proofs.lemmas.Bool.Decides.{nat_tests}
@@ -38,32 +38,32 @@ answer_is i k c e h =
 
 -- What a cache has after a call.
 
-pub all_without : (P : CacheEntry → Type 0) (k : ℕ) (c : Cache) → All P c → All P (without k c)
+pub all_without : (P : CacheEntry → Type 0) (k : ℕ) (c : Cache) → AllByRecursion P c → AllByRecursion P (without k c)
 all_without P k [] all = tt
 all_without P k (e ∷ es) all =
-    cond_both (eqb e.key k) _ _ (All P) (λ _. all.1) (λ _. (all.0, all_without P k es all.1))
+    cond_both (eqb e.key k) _ _ (AllByRecursion P) (λ _. all.1) (λ _. (all.0, all_without P k es all.1))
 
-all_used : (P : CacheEntry → Type 0) (e : CacheEntry) (c : Cache) → All P c → P e → All P (used_latest e c)
+all_used : (P : CacheEntry → Type 0) (e : CacheEntry) (c : Cache) → AllByRecursion P c → P e → AllByRecursion P (used_latest e c)
 all_used P e c all here =
     All-drop P (length (without e.key c ++ (e ∷ [])) - cache_keys) _ (All-push P (without e.key c) e (all_without P e.key c all) here)
 
 -- what a notice makes of an entry of its key is all that it adds
-pub all_noticed : (P Q : CacheEntry → Type 0) (n : Notice) → ((e : CacheEntry) → P e → Q e) → ((e : CacheEntry) → e.key ≡ n.key → P e → Q (entry_of e.key (noticed n.reading e.reading))) → (c : Cache) → All P c → All Q (with_notice n c)
+pub all_noticed : (P Q : CacheEntry → Type 0) (n : Notice) → ((e : CacheEntry) → P e → Q e) → ((e : CacheEntry) → e.key ≡ n.key → P e → Q (entry_of e.key (noticed n.reading e.reading))) → (c : Cache) → AllByRecursion P c → AllByRecursion Q (with_notice n c)
 all_noticed P Q n keep change [] all = tt
 all_noticed P Q n keep change (e ∷ es) all =
-    cond_both (eqb e.key n.key) _ _ (All Q)
+    cond_both (eqb e.key n.key) _ _ (AllByRecursion Q)
     (λ t. (change e (eqb-true _ _ t) all.0, All-weaker P Q keep es all.1))
     (λ _. (keep e all.0, all_noticed P Q n keep change es all.1))
 
-added : (e : CacheEntry) (c : Cache) → All (AddedTo c e) c
+added : (e : CacheEntry) (c : Cache) → AllByRecursion (AddedTo c e) c
 added e c = All-weaker (Has c) (AddedTo c e) (λ x h. inl h) c (all_has_itself c)
 
-used_adds : (e : CacheEntry) (c : Cache) → All (AddedTo c e) (used_latest e c)
+used_adds : (e : CacheEntry) (c : Cache) → AllByRecursion (AddedTo c e) (used_latest e c)
 used_adds e c = all_used (AddedTo c e) e c (added e c) (inr refl)
 
-stored_adds : (s : ℕ) (e : CacheEntry) (c : Cache) → All (AddedTo c e) (with_answer s e c)
+stored_adds : (s : ℕ) (e : CacheEntry) (c : Cache) → AllByRecursion (AddedTo c e) (with_answer s e c)
 stored_adds s e c =
-    cond_both (is_later_than s (look_up e.key c)) c (used_latest e c) (All (AddedTo c e)) (λ _. added e c) (λ _. used_adds e c)
+    cond_both (is_later_than s (look_up e.key c)) c (used_latest e c) (AllByRecursion (AddedTo c e)) (λ _. added e c) (λ _. used_adds e c)
 
 told_change : (n : Notice) (c : Cache) (e : CacheEntry) → e.key ≡ n.key → Has c e → ToldTo c n (entry_of e.key (noticed n.reading e.reading))
 told_change n c e same there =

@@ -1,7 +1,7 @@
 -- Every call but commit keeps the invariant of a life.
 use Rattle.std.proofs.Common.{◌≡◌, ℕ, zero, suc, ◌<◌, ◌≤◌, min, max, Bool, true, false, cond, not, ◌&&◌, eqb, ltb, leb, List, [], ◌∷◌, ◌++◌, length, Some, None, Ok, Err, Option, Result, sym, refl, ap, ◌∙◌, subst, inl, inr, ⊎_elim, arith, MatchOption}
 use Rattle.std.specs.Option.{option_or}
-use Rattle.std.specs.List.{ContainsAt as Has, AllByRecursion as All}
+use Rattle.std.specs.List.{ContainsAt as Has, AllByRecursion}
 use Rattle.std.proofs.ByRecursion.{all-has, All-weaker, has_append_right}
 use Rattle.std.proofs.lemmas.Option.{MatchOption-at_some}
 use Rattle.std.proofs.lemmas.Bool.{and_parts, and_from, cond_both, eqb-true, leb-true, ltb-true, le-leb}
@@ -165,7 +165,7 @@ module _
         free_sound store limits h told m s sound p))
 
     -- a true entry that is put into a cache leaves it true
-    added_true : (c c' : Cache) (e : CacheEntry) → All (AddedTo c e) c' → TrueReading h last e.key e.reading → AllTrue h last c → AllTrue h last c'
+    added_true : (c c' : Cache) (e : CacheEntry) → AllByRecursion (AddedTo c e) c' → TrueReading h last e.key e.reading → AllTrue h last c → AllTrue h last c'
     added_true c c' e added true_e all =
         let P : CacheEntry → Type 0 = λ x. TrueReading h last x.key x.reading in
         All-weaker (AddedTo c e) P (λ x from. ⊎_elim (λ has. all-has P c x all has) (λ same. subst P (sym same) true_e) from) c' added

@@ -2,7 +2,7 @@
 -- reads, each of which is backed by a true reading that covers the account's interval.
 use Rattle.std.proofs.Common.{◌≡◌, ℕ, zero, suc, ◌<◌, ◌≤◌, min, max, Bool, true, not, ◌&&◌, ◌||◌, eqb, ltb, leb, List, [], ◌∷◌, ◌++◌, map, length, IfSome, Some, None, Ok, Err, fold, Option, sym, refl, ap, ◌∙◌, subst, ⊎_elim, arith}
 use mathlib.Core.Path.{fun_ext}
-use Rattle.std.specs.List.{AllByRecursion as All}
+use Rattle.std.specs.List.{AllByRecursion}
 use Rattle.std.proofs.ByRecursion.{all-has, All-map, All-weaker}
 use Rattle.std.proofs.lemmas.List.{append-nil, length-map}
 use Rattle.std.proofs.lemmas.Bool.{and_parts, and_from, cases_eq, eq-eqb, le-leb, lt-ltb, ltb-true}
@@ -54,15 +54,15 @@ only_one l states (suc n) j leg only lt e =
 
 -- Tests of every reading.
 
-all_pass : {X : Type 0} (test : X → Bool) (xs : List X) → All (λ x. test x ≡ true) xs → all test xs ≡ true
+all_pass : {X : Type 0} (test : X → Bool) (xs : List X) → AllByRecursion (λ x. test x ≡ true) xs → all test xs ≡ true
 all_pass test [] each = refl
 all_pass test (x ∷ xs) each = and_from _ _ each.0 (all_pass test xs each.1)
 
-greatest_below : (n a : ℕ) (rs : List ChainReading) → a ≤ n → All (λ r. r.reading.timestamp ≤ n) rs → fold (λ a r. max a r.reading.timestamp) a rs ≤ n
+greatest_below : (n a : ℕ) (rs : List ChainReading) → a ≤ n → AllByRecursion (λ r. r.reading.timestamp ≤ n) rs → fold (λ a r. max a r.reading.timestamp) a rs ≤ n
 greatest_below n a [] le each = le
 greatest_below n a (r ∷ rs) le each = greatest_below n (max a r.reading.timestamp) rs (omega (arith, each.0)) each.1
 
-least_above : (n a : ℕ) (rs : List ChainReading) → n ≤ a → All (λ r. n ≤ r.reading.promise) rs → n ≤ fold (λ a r. min a r.reading.promise) a rs
+least_above : (n a : ℕ) (rs : List ChainReading) → n ≤ a → AllByRecursion (λ r. n ≤ r.reading.promise) rs → n ≤ fold (λ a r. min a r.reading.promise) a rs
 least_above n a [] le each = le
 least_above n a (r ∷ rs) le each = least_above n (min a r.reading.promise) rs (omega (arith, each.0)) each.1
 
@@ -87,7 +87,7 @@ module _
         let same : c.leg ≡ leg = cc in
         (omega (arith, c.from_low, ap (λ x. x.interval.low) same), omega (arith, c.to_high, ap (λ x. x.interval.high) same))
 
-    all_around : All Around chain.readings
+    all_around : AllByRecursion Around chain.readings
     all_around = All-weaker (Covers chain.legs) Around around chain.readings sound.covered
 
     abbrev made : List ChainReading
@@ -118,11 +118,11 @@ module _
     for_the_book_lem t time = and_from _ _ (and_from _ _ (and_from _ _ (and_from _ _ few sound_made) of_leg.rising) ends) time
 
     -- no promise is above last
-    promises_known : All (λ r. r.reading.promise ≤ last) made
+    promises_known : AllByRecursion (λ r. r.reading.promise ≤ last) made
     promises_known = All-map (λ r. r.reading.promise ≤ last) (λ (r : LegReading). r.made) chain.readings (All-weaker (ReadingSound h last) (λ r. r.made.reading.promise ≤ last) (λ r s. s.is_true.known) chain.readings sound.readings)
 
     -- every value that was answered outside the writes is backed
-    backed : All (Backed h last leg.interval.low leg.interval.high) told.outside
+    backed : AllByRecursion (Backed h last leg.interval.low leg.interval.high) told.outside
     backed =
         All-weaker (Shown chain.readings) (Backed h last leg.interval.low leg.interval.high) (λ x s.
         let r = s.reading in
@@ -170,7 +170,7 @@ module _
         let last = s.store.last in
         let h' : History = with_commit t ws in
         let on = commit_goes_on h last t ws a.after_last in
-        let noticed : All (λ w. (worker : ℕ) → TrueReading h' t w.key (notice_of t w worker).reading) ws =
+        let noticed : AllByRecursion (λ w. (worker : ℕ) → TrueReading h' t w.key (notice_of t w worker).reading) ws =
         All-weaker (λ w. (is_key w.key ≡ true) × (written_to w.key ws ≡ Some w.value)) (λ w. (worker : ℕ) → TrueReading h' t w.key (notice_of t w worker).reading)
         (λ w has worker. commit_true h last t w.value w.key ws has.0 a.after_last (sound.stands.of_keys w.key has.0).up_to_last has.1)
         ws (written_each ws rising) in
@@ -205,7 +205,7 @@ module _
           let of_leg = leg_sound last limits (told p) chain before.legs l leg is_open in
           let same : h ≡ with_commit 0 [] = fun_ext (λ k. sym (append-nil (h k))) in
           let sound_with : History → Type 0 = λ h'. Sound store limits h' told m (with_place p None s) in
-          let backed_with : History → Type 0 = λ h'. All (Backed h' last i.low i.high) (told p).outside in
+          let backed_with : History → Type 0 = λ h'. AllByRecursion (Backed h' last i.low i.high) (told p).outside in
           let goes_on_with : History → Type 0 = λ h'. GoesOn h last h' last in (
             subst sound_with same (free_sound store limits h told m s sound p),
             (
@@ -229,7 +229,7 @@ module _
           let a = commit-accepted depth clock ws s.store t answer in
           let on = commit_goes_on h last t ws a.after_last in
           let known = promises_known h last limits limit_laws (told p) chain before l leg is_open only sound.before_end in
-          let later : All (λ r. r.reading.promise < t) (map (λ r. r.made) chain.readings) = All-weaker (λ r. r.reading.promise ≤ last) (λ r. r.reading.promise < t) (λ r le. omega (arith, a.after_last)) _ known in
+          let later : AllByRecursion (λ r. r.reading.promise < t) (map (λ r. r.made) chain.readings) = All-weaker (λ r. r.reading.promise ≤ last) (λ r. r.reading.promise < t) (λ r le. omega (arith, a.after_last)) _ known in
           let time : sound_timestamp t (map (λ r. r.made) chain.readings) ws ≡ true = and_from _ _ a.of_commit (all_pass (λ r. ltb r.reading.promise t) _ (All-weaker (λ r. r.reading.promise < t) (λ r. ltb r.reading.promise t ≡ true) (λ r lt. lt-ltb _ _ lt) _ later)) in
           let on_backed : (x : ValueRead) → Backed h last i.low i.high x → Backed (with_commit t ws) t i.low i.high x = λ x b. record {
             reading = b.reading;

@@ -1,6 +1,6 @@
 -- The examples hold: the lives are computed, and the law is applied to them.
 use Rattle.std.proofs.Common.{◌≡◌, ℕ, ◌≤◌, List, [], ◌∷◌, ◌++◌, refl, arith}
-use Rattle.std.specs.List.{ContainsAt as Has, AllByRecursion as All}
+use Rattle.std.specs.List.{ContainsAt as Has, AllByRecursion}
 use Rattle.std.proofs.ByRecursion.{all-has}
 use Rattle.snapshot.specs.Accounts.{Account}
 use Rattle.store.specs.Laws.{HoldsAt}
@@ -22,7 +22,7 @@ six_at_thirty =
 
 not_five_at_thirty : ValueAt 30 5 zones → ⊥
 not_five_at_thirty (v, held, five) =
-    let none : All (λ w. 30 ≤ w.timestamp → w.value ≡ 5 → ⊥) zones = (λ late _. omega arith, λ late _. omega arith, λ _ five. omega arith, tt) in
+    let none : AllByRecursion (λ w. 30 ≤ w.timestamp → w.value ≡ 5 → ⊥) zones = (λ late _. omega arith, λ late _. omega arith, λ _ five. omega arith, tt) in
     all-has (λ w. 30 ≤ w.timestamp → w.value ≡ 5 → ⊥) zones v none held.there (held.newest_one.2.0 (omega arith)) five
 
 pub break_in_lem : BreakIn

@@ -1,6 +1,6 @@
 -- What a call does to the chain that it names keeps the chain sound.
 use Rattle.std.proofs.Common.{◌≡◌, ℕ, zero, suc, ◌<◌, ◌≤◌, min, max, true, ◌⊎◌, List, [], ◌∷◌, ◌++◌, map, length, Some, None, Option, sym, refl, ap, ◌∙◌, subst, inl, inr, ⊎_elim, arith}
-use Rattle.std.specs.List.{ContainsAt as Has, AllByRecursion as All}
+use Rattle.std.specs.List.{ContainsAt as Has, AllByRecursion}
 use Rattle.std.proofs.ByRecursion.{All-push, All-weaker, has_append_left, has_push}
 use Rattle.std.proofs.lemmas.List.{length_push, map_push}
 use Rattle.std.proofs.lemmas.List.Sums.{fold_push}
@@ -69,7 +69,7 @@ covers_on legs legs' on r c =
     }
 
 -- then every reading still covers one
-all_covered : (legs legs' : ℕ → LegState) → AllGoOn legs legs' → (rs : List LegReading) → All (Covers legs) rs → All (Covers legs') rs
+all_covered : (legs legs' : ℕ → LegState) → AllGoOn legs legs' → (rs : List LegReading) → AllByRecursion (Covers legs) rs → AllByRecursion (Covers legs') rs
 all_covered legs legs' on rs c = All-weaker (Covers legs) (Covers legs') (covers_on legs legs' on) rs c
 
 -- The legs of a chain.
@@ -286,7 +286,7 @@ leg_narrowed h last limits rs r written leg true_r meets s =
       as_told = s.as_told;
     }
 
-shown_more : (rs : List LegReading) (r : LegReading) (xs : List ValueRead) → All (Shown rs) xs → All (Shown (rs ++ (r ∷ []))) xs
+shown_more : (rs : List LegReading) (r : LegReading) (xs : List ValueRead) → AllByRecursion (Shown rs) xs → AllByRecursion (Shown (rs ++ (r ∷ []))) xs
 shown_more rs r xs =
     All-weaker (Shown rs) (Shown (rs ++ (r ∷ []))) (λ x s. record {
       reading = s.reading;
@@ -296,7 +296,7 @@ shown_more rs r xs =
     }) xs
 
 -- what is told of a read: where the leg has written the key nothing, else one more value that was answered
-shown_with : (P : ValueRead → Type 0) (written : Option ℕ) (x : ValueRead) (xs : List ValueRead) → (written ≡ None → P x) → All P xs → All P (outside_with written x xs)
+shown_with : (P : ValueRead → Type 0) (written : Option ℕ) (x : ValueRead) (xs : List ValueRead) → (written ≡ None → P x) → AllByRecursion P xs → AllByRecursion P (outside_with written x xs)
 shown_with P None x xs new old = (new refl, old)
 shown_with P (Some v) x xs new old = old
 

@@ -1,6 +1,6 @@
 -- Every life keeps the law: the invariant of a life is kept by every call, and the law follows from it.
 use Rattle.std.proofs.Common.{◌≡◌, ℕ, ◌≤◌, List, [], ◌∷◌, IfSome, Some, None, Ok, Err, Option, Result, sym, refl, ap, ◌∙◌, subst, subst₂, arith}
-use Rattle.std.specs.List.{AllByRecursion as All}
+use Rattle.std.specs.List.{AllByRecursion}
 use Rattle.std.proofs.ByRecursion.{All-weaker}
 use Rattle.snapshot.specs.Accounts.{Account}
 use Rattle.snapshot.specs.declared.fault.EngineFault.{EngineFault}
@@ -184,7 +184,7 @@ module _
     -- The law.
 
     -- at every time of the account's interval the history holds what was read
-    values_held : (h : History) (last : ℕ) (before : History) (told : ChainTold) (l : ℕ) (a : Account) → Confirmed h last before told l a → (u : ℕ) → a.low ≤ u → u ≤ a.high → All (λ r. ValueAt u r.value (h r.key)) told.outside
+    values_held : (h : History) (last : ℕ) (before : History) (told : ChainTold) (l : ℕ) (a : Account) → Confirmed h last before told l a → (u : ℕ) → a.low ≤ u → u ≤ a.high → AllByRecursion (λ r. ValueAt u r.value (h r.key)) told.outside
     values_held h last before told l a c u from to =
         All-weaker (Backed h last a.low a.high) (λ r. ValueAt u r.value (h r.key))
         (λ r b. (version_in b.reading, b.is_true.current u (omega (arith, b.from_low)) (omega (arith, b.to_high)), b.same_value))

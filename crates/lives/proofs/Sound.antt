@@ -1,6 +1,6 @@
 -- The invariant of a life: what is so of every engine, against what its life tells.
 use Rattle.std.proofs.Common.{◌≡◌, ℕ, ◌<◌, ◌≤◌, true, List, [], map, length, IfSome, Ok, Err, Option}
-use Rattle.std.specs.List.{ContainsAt as Has, AllByRecursion as All}
+use Rattle.std.specs.List.{ContainsAt as Has, AllByRecursion}
 use Rattle.snapshot.specs.Accounts.{Account, greatest_timestamp, least_promise, rising_from, lawful}
 use Rattle.snapshot.specs.Limits.{open_end, is_key, is_worker}
 use Rattle.snapshot.specs.Limits as limit
@@ -73,10 +73,10 @@ pub record ChainSound (h : History) (last : ℕ) (limits : ChainLimits) (told : 
   pub legs : LegsSound last limits told c
   -- every reading is true, and covers the interval of some open leg
   pub few_readings : length c.readings ≤ limits.readings
-  pub readings : All (ReadingSound h last) c.readings
-  pub covered : All (Covers c.legs) c.readings
+  pub readings : AllByRecursion (ReadingSound h last) c.readings
+  pub covered : AllByRecursion (Covers c.legs) c.readings
   -- every value answered outside the chain's writes is that of a reading
-  pub shown : All (Shown c.readings) told.outside
+  pub shown : AllByRecursion (Shown c.readings) told.outside
 
 -- The whole engine, over a new store that has become m, after a life with this history that tells this of each place.
 pub record Sound (store : NewStore) (limits : ChainLimits) (h : History) (told : ℕ → ChainTold) (m : Meaning) (s : Engine) : Type 0 where
@@ -86,7 +86,7 @@ pub record Sound (store : NewStore) (limits : ChainLimits) (h : History) (told :
   pub before_end : s.store.last < open_end
   -- every entry of every cache, and every notice that waits, is true
   pub caches : (w : ℕ) → AllTrue h s.store.last (s.caches w)
-  pub notices : All (λ n. TrueReading h s.store.last n.key n.reading) s.notices.waiting
+  pub notices : AllByRecursion (λ n. TrueReading h s.store.last n.key n.reading) s.notices.waiting
   -- every open chain is sound
   pub chains : (p : ℕ) → IfSome (s.places p) (ChainSound h s.store.last limits (told p))
 
@@ -104,10 +104,10 @@ pub record Backed (h : History) (last low high : ℕ) (x : ValueRead) : Type 0 w
 -- of it, where each value that was read is backed by a reading that is true of the history h.
 pub record Confirmed (h : History) (last : ℕ) (before : History) (told : ChainTold) (l : ℕ) (a : Account) : Type 0 where
   pub some : a.low ≤ a.high
-  pub backed : All (Backed h last a.low a.high) told.outside
+  pub backed : AllByRecursion (Backed h last a.low a.high) told.outside
   pub its_writes : (k : ℕ) → written_to k a.writes ≡ told.written l k
-  pub after_history : 1 ≤ length a.writes → (k : ℕ) → is_key k ≡ true → All (λ v. v.timestamp < a.timestamp) (before k)
-  pub after_promises : 1 ≤ length a.writes → All (λ r. r.reading.promise < a.timestamp) a.readings
+  pub after_history : 1 ≤ length a.writes → (k : ℕ) → is_key k ≡ true → AllByRecursion (λ v. v.timestamp < a.timestamp) (before k)
+  pub after_promises : 1 ≤ length a.writes → AllByRecursion (λ r. r.reading.promise < a.timestamp) a.readings
   pub for_the_book : lawful a ≡ true
 
 -- The invariant of a life.

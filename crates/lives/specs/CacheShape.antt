@@ -1,6 +1,6 @@
 -- What a worker's cache is: at most eight entries, one for a key, in the order of their use.
 use Rattle.std.specs.Prelude.{◌≡◌, ℕ, ◌<◌, ◌≤◌, [], ◌∷◌, ◌++◌, map, length, drop, Some, ◌≢◌}
-use Rattle.std.specs.List.{AllByRecursion as All}
+use Rattle.std.specs.List.{AllByRecursion}
 use Rattle.snapshot.specs.Limits.{cache_keys}
 use Rattle.lives.specs.Caches.{Cache, look_up, used_latest, with_answer, with_notice}
 use Rattle.lives.specs.declared.records.CacheEntry.{CacheEntry}
@@ -8,7 +8,7 @@ use Rattle.lives.specs.declared.records.Notice.{Notice}
 
 -- no entry is of this key
 abbrev pub NoneOf : ℕ → Cache → Type 0
-NoneOf k c = All (λ e. e.key ≢ k) c
+NoneOf k c = AllByRecursion (λ e. e.key ≢ k) c
 
 -- no two entries are of one key
 abbrev pub Apart : Cache → Type 0

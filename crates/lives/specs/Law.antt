@@ -1,6 +1,6 @@
 -- The law of lives: every committed account shows a site that was.
 use Rattle.std.specs.Prelude.{◌≡◌, ℕ, ◌<◌, ◌≤◌, true, List, ◌∷◌, length, Some, None, Ok, Err, Option}
-use Rattle.std.specs.List.{ContainsAt as Has, AllByRecursion as All}
+use Rattle.std.specs.List.{ContainsAt as Has, AllByRecursion}
 use Rattle.snapshot.specs.Accounts.{Account, lawful}
 use Rattle.snapshot.specs.Intervals.{Lies, from_to}
 use Rattle.snapshot.specs.Limits.{is_key}
@@ -27,13 +27,13 @@ pub record AccountLaw (history : ℕ → List Version) (before : Life) (p l : �
   -- the final interval is not empty
   pub some : a.low ≤ a.high
   -- at every time in it, the history holds every value that the chain read outside its own writes
-  pub agrees : (s : ℕ) → Lies s (from_to a.low a.high) → All (λ r. ValueAt s r.value (history r.key)) (told_of before p).outside
+  pub agrees : (s : ℕ) → Lies s (from_to a.low a.high) → AllByRecursion (λ r. ValueAt s r.value (history r.key)) (told_of before p).outside
   -- the writes are those that the leg made or took over
   pub its_writes : (k : ℕ) → written_to k a.writes ≡ (told_of before p).written l k
   -- if there are any, they enter the history at one timestamp, which is later than everything before
-  pub after_history : 1 ≤ length a.writes → (k : ℕ) → is_key k ≡ true → All (λ v. v.timestamp < a.timestamp) (history_of before k)
+  pub after_history : 1 ≤ length a.writes → (k : ℕ) → is_key k ≡ true → AllByRecursion (λ v. v.timestamp < a.timestamp) (history_of before k)
   -- and later than every promise in the account
-  pub after_promises : 1 ≤ length a.writes → All (λ r. r.reading.promise < a.timestamp) a.readings
+  pub after_promises : 1 ≤ length a.writes → AllByRecursion (λ r. r.reading.promise < a.timestamp) a.readings
   -- the book takes the account
   pub for_the_book : lawful a ≡ true
 

@@ -2,7 +2,7 @@
 -- stand in their place.
 use Rattle.std.specs.Prelude.{◌≡◌, ℕ, ◌≤◌, true, ◌⊎◌, List, Some}
 use Rattle.std.specs.Option.{option_or}
-use Rattle.std.specs.List.{ContainsAt as Has, AllByRecursion as All}
+use Rattle.std.specs.List.{ContainsAt as Has, AllByRecursion}
 use Rattle.snapshot.specs.Accounts.{rising_from}
 use Rattle.snapshot.specs.Intervals.{meets_reading}
 use Rattle.snapshot.specs.Limits as limit
@@ -38,9 +38,9 @@ ToldTo c n x = Has c x ⊎ ((x ≡ entry_of n.key n.reading) ⊎ WidenedBy n c x
 pub record CacheLaws (rules : CacheRules) : Type 0 where
   -- the entry that answers is one that the cache has, of the key asked, and meets the interval
   pub answers : (i : Interval) (k : ℕ) (c : Cache) (e : CacheEntry) → rules.answer i k c ≡ Some e → Has c e × (e.key ≡ k) × (meets_reading i e.reading ≡ true)
-  pub used : (e : CacheEntry) (c : Cache) → All (AddedTo c e) (rules.after_use e c)
-  pub stored : (s : ℕ) (e : CacheEntry) (c : Cache) → All (AddedTo c e) (rules.after_store s e c)
-  pub told : (n : Notice) (c : Cache) → All (ToldTo c n) (rules.after_notice n c)
+  pub used : (e : CacheEntry) (c : Cache) → AllByRecursion (AddedTo c e) (rules.after_use e c)
+  pub stored : (s : ℕ) (e : CacheEntry) (c : Cache) → AllByRecursion (AddedTo c e) (rules.after_store s e c)
+  pub told : (n : Notice) (c : Cache) → AllByRecursion (ToldTo c n) (rules.after_notice n c)
 
 -- Write sets.
 

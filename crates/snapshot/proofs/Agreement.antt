@@ -1,6 +1,6 @@
 -- The times of a lawful account are those at which every reading's version is known to be current.
 use Rattle.std.proofs.Common.{◌≡◌, ℕ, ◌≤◌, min, max, true, ◌&&◌, eqb, leb, List, [], ◌∷◌, fold, arith}
-use Rattle.std.specs.List.{AllByRecursion as All}
+use Rattle.std.specs.List.{AllByRecursion}
 use Rattle.std.proofs.lemmas.Bool.{and_parts, leb-true, eqb-true}
 use Rattle.snapshot.specs.Accounts.{Account, Agrees, agreed_ends, greatest_timestamp, least_promise}
 use Rattle.snapshot.specs.Intervals.{Current}
@@ -13,13 +13,13 @@ later a r = max a r.reading.timestamp
 abbrev sooner : ℕ → ChainReading → ℕ
 sooner b r = min b r.reading.promise
 
-inside : (rs : List ChainReading) (a b s : ℕ) → fold later a rs ≤ s → s ≤ fold sooner b rs → (a ≤ s) × (s ≤ b) × All (λ r. Current s r.reading) rs
+inside : (rs : List ChainReading) (a b s : ℕ) → fold later a rs ≤ s → s ≤ fold sooner b rs → (a ≤ s) × (s ≤ b) × AllByRecursion (λ r. Current s r.reading) rs
 inside [] a b s l h = (l, h, tt)
 inside (r ∷ rs) a b s l h =
     let rest = inside rs (later a r) (sooner b r) s l h in
     (omega (arith, rest.0), omega (arith, rest.1), ((omega (arith, rest.0), omega (arith, rest.1)), rest.2))
 
-outside : (rs : List ChainReading) (a b s : ℕ) → a ≤ s → s ≤ b → All (λ r. Current s r.reading) rs → (fold later a rs ≤ s) × (s ≤ fold sooner b rs)
+outside : (rs : List ChainReading) (a b s : ℕ) → a ≤ s → s ≤ b → AllByRecursion (λ r. Current s r.reading) rs → (fold later a rs ≤ s) × (s ≤ fold sooner b rs)
 outside [] a b s l h c = (l, h)
 outside (r ∷ rs) a b s l h c = outside rs (later a r) (sooner b r) s (omega (arith, c.0)) (omega (arith, c.0)) c.1
 

@@ -1,6 +1,6 @@
 -- The account of a committed chain, and when it is lawful.
 use Rattle.std.specs.Prelude.{ℕ, suc, ◌≤◌, min, max, Bool, true, ◌&&◌, ltb, List, [], ◌∷◌, length, take, fold, ◌==◌, nat_le, nat_lt}
-use Rattle.std.specs.List.{AllByRecursion as All}
+use Rattle.std.specs.List.{AllByRecursion}
 use Rattle.snapshot.specs.Intervals.{from_to, Lies, Current}
 use Rattle.snapshot.specs.Limits.{open_end, is_key, is_worker, is_timestamp, chain_readings, write_keys}
 use Rattle.snapshot.specs.declared.account.AccountHead.{AccountHead}
@@ -87,8 +87,8 @@ lawful a =
 -- reading's version is known to be current then.
 pub record Agrees (a : Account) : Type 0 where
   pub some : a.low ≤ a.high
-  pub when_in : (s : ℕ) → Lies s (from_to a.low a.high) → All (λ r. Current s r.reading) a.readings
-  pub only_in : (s : ℕ) → s ≤ open_end → All (λ r. Current s r.reading) a.readings → Lies s (from_to a.low a.high)
+  pub when_in : (s : ℕ) → Lies s (from_to a.low a.high) → AllByRecursion (λ r. Current s r.reading) a.readings
+  pub only_in : (s : ℕ) → s ≤ open_end → AllByRecursion (λ r. Current s r.reading) a.readings → Lies s (from_to a.low a.high)
 
 -- the reading and the write that are all zeros
 abbrev pub zero_reading : ChainReading

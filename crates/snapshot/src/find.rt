@@ -14,8 +14,8 @@ pub trait Keyed<K> {
 
 // The place of the first record with this key, if there is one.
 pub fn find<K: Copy, T: Keyed<K>>(records: &[T], key: K) -> Option<usize>
-    ensures value { result ≡ first_with (λ x. named x key) records.now }
-    ensures means { FirstMeans (λ x. named x key) records.now result }
+    ensures value { result ≡ first_with (λ x. T.named x key) records.now }
+    ensures means { FirstMeans (λ x. T.named x key) records.now result }
 {
     for (place, record) in records.iter().enumerate() {
         if record.has_key(key) {

@@ -1,6 +1,6 @@
 // The keys of a list of writes: each in range, and strictly rising.
 ghost use Rattle.std.specs.Prelude.{◌≡◌, ◌^◌, ◌<◌, true, ◌&&◌, nat_le};
-ghost use Rattle.std.specs.List.{AllByRecursion as All};
+ghost use Rattle.std.specs.List.{AllByRecursion};
 ghost use Rattle.snapshot.specs.Accounts.{rising_from};
 ghost use Rattle.snapshot.specs.Limits.{is_key};
 
@@ -10,7 +10,7 @@ use crate::limits::is_key;
 // Are the writes' keys in range and strictly rising?
 pub fn are_rising(writes: &[Write]) -> bool
     ensures value { result ≡ rising_from 0 writes.now }
-    ensures fits { result ≡ true → All (λ w. w.value < 2 ^ 32) writes.now }
+    ensures fits { result ≡ true → AllByRecursion (λ w. w.value < 2 ^ 32) writes.now }
 {
     let mut least = 0;
     for write in writes {

@@ -1,7 +1,7 @@
 -- Lists of versions: which of them rise, which version they hold at a time, what newest_at answers, and how many are outdated.
 use Rattle.std.proofs.Common.{◌≡◌, ℕ, ◌+◌, ◌<◌, ◌≤◌, min, cond, leb, List, [], ◌∷◌, ◌++◌, length, get_or, take, drop, Some, None, Option, refl, ap, ⊎_elim, append_assoc, arith, MatchOption}
 use Rattle.std.specs.Option.{option_or}
-use Rattle.std.specs.List.{ContainsAt as Has, AllByRecursion as All}
+use Rattle.std.specs.List.{ContainsAt as Has, AllByRecursion}
 use Rattle.std.proofs.ByRecursion.{All-append, All-drop, all-has, All-weaker, has_append_right}
 use Rattle.std.proofs.lemmas.List.{drop_at, take-append-drop}
 use Rattle.std.proofs.lemmas.Bool.{cases_lt, leb-true, leb-false, lt-leb, cond_both}
@@ -14,15 +14,15 @@ use Rattle.store.specs.declared.version.Version.{Version}
 
 -- every one of these versions is later than s
 abbrev pub Later : ℕ → List Version → Type 0
-Later s vs = All (λ w. s < w.timestamp) vs
+Later s vs = AllByRecursion (λ w. s < w.timestamp) vs
 
 -- before s
 abbrev pub Before : ℕ → List Version → Type 0
-Before s vs = All (λ w. w.timestamp < s) vs
+Before s vs = AllByRecursion (λ w. w.timestamp < s) vs
 
 -- not later than s
 abbrev pub UpTo : ℕ → List Version → Type 0
-UpTo s vs = All (λ w. w.timestamp ≤ s) vs
+UpTo s vs = AllByRecursion (λ w. w.timestamp ≤ s) vs
 
 pub up_to_weaker : (s t : ℕ) (vs : List Version) → s ≤ t → UpTo s vs → UpTo t vs
 up_to_weaker s t vs le up = All-weaker (λ w. w.timestamp ≤ s) (λ w. w.timestamp ≤ t) (λ w h. omega arith) vs up

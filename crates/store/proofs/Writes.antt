@@ -1,6 +1,6 @@
 -- Writes that a commit takes: their keys rise strictly and lie in range, so that each key is written at most once.
 use Rattle.std.proofs.Common.{◌≡◌, ℕ, suc, ◌<◌, ◌≤◌, true, false, ◌&&◌, leb, List, [], ◌∷◌, None, refl, arith}
-use Rattle.std.specs.List.{AllByRecursion as All}
+use Rattle.std.specs.List.{AllByRecursion}
 use Rattle.std.proofs.lemmas.Bool.{and_parts}
 use Rattle.std.proofs.lemmas.Bool.Decides.{nat_tests}
 use Rattle.snapshot.specs.Accounts.{rising_from}
@@ -11,7 +11,7 @@ use Rattle.store.specs.Meaning.{written_to}
 pub rising_later : (least : ℕ) (w : Write) (ws : List Write) → rising_from least (w ∷ ws) ≡ true → rising_from (suc w.key) ws ≡ true
 rising_later least w ws e = (and_parts (leb least w.key && is_key w.key) (rising_from (suc w.key) ws) e).1
 
-pub rising_keys : (least : ℕ) (ws : List Write) → rising_from least ws ≡ true → All (λ w. w.key < keys) ws
+pub rising_keys : (least : ℕ) (ws : List Write) → rising_from least ws ≡ true → AllByRecursion (λ w. w.key < keys) ws
 rising_keys least [] e = tt
 rising_keys least (w ∷ ws) e = (grind (arith, nat_tests), rising_keys (suc w.key) ws (rising_later least w ws e))
 
@@ -24,7 +24,7 @@ unwritten_below k least (w ∷ ws) lt e =
     grind (arith, nat_tests)
 
 -- a number that is no key is not written
-pub unwritten_past : (k : ℕ) (ws : List Write) → is_key k ≡ false → All (λ w. w.key < keys) ws → written_to k ws ≡ None
+pub unwritten_past : (k : ℕ) (ws : List Write) → is_key k ≡ false → AllByRecursion (λ w. w.key < keys) ws → written_to k ws ≡ None
 unwritten_past k [] past below = refl
 unwritten_past k (w ∷ ws) past below =
     let rest = unwritten_past k ws past below.1 in

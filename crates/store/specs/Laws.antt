@@ -1,7 +1,7 @@
 -- What holds of every store after any calls on a new one, told by what was ever committed.
 use Rattle.std.specs.Prelude.{◌≡◌, ℕ, ◌+◌, ◌<◌, ◌≤◌, min, true, List, [], ◌∷◌, ◌++◌, length, Some, None, Ok, Err, Option, slice_index_or}
 use Rattle.std.specs.Result.{result_ok}
-use Rattle.std.specs.List.{ContainsAt as Has, AllByRecursion as All}
+use Rattle.std.specs.List.{ContainsAt as Has, AllByRecursion}
 use Rattle.snapshot.specs.Limits.{keys, is_key, is_time}
 use Rattle.snapshot.specs.declared.account.Reading.{Reading}
 use Rattle.snapshot.specs.declared.account.Write.{Write}
@@ -50,13 +50,13 @@ ever_had calls answers k = version_of 0 0 ∷ given_by_all calls answers k
 -- the timestamps rise strictly
 abbrev pub Rises : List Version → Type 0
 Rises [] = Unit {0}
-Rises (v ∷ vs) = All (λ w. v.timestamp < w.timestamp) vs × Rises vs
+Rises (v ∷ vs) = AllByRecursion (λ w. v.timestamp < w.timestamp) vs × Rises vs
 
 -- at time s these versions hold v: it is one of them, not later than s, and none that is not later than s is newer
 pub record HoldsAt (s : ℕ) (v : Version) (vs : List Version) : Type 0 where
   pub there : Has vs v
   pub not_later : v.timestamp ≤ s
-  pub newest_one : All (λ w. w.timestamp ≤ s → w.timestamp ≤ v.timestamp) vs
+  pub newest_one : AllByRecursion (λ w. w.timestamp ≤ s → w.timestamp ≤ v.timestamp) vs
 
 -- the version that a reading shows
 abbrev pub version_in : Reading → Version
@@ -85,7 +85,7 @@ pub record KeyLaw (m : Meaning) (ever : List Version) (k : ℕ) : Type 0 where
   -- the kept versions rise strictly in time
   pub rises : Rises (m.kept k)
   -- nothing, kept or dropped, is later than last
-  pub up_to_last : All (λ v. v.timestamp ≤ m.last) ever
+  pub up_to_last : AllByRecursion (λ v. v.timestamp ≤ m.last) ever
   -- what is kept is the end of all that the key ever had
   pub suffix : (gone : List Version) × (ever ≡ gone ++ m.kept k)
   -- what version answers
@@ -100,7 +100,7 @@ pub record KeyLaw (m : Meaning) (ever : List Version) (k : ℕ) : Type 0 where
 pub record CommitLaw (m : Meaning) (ever : ℕ → List Version) (clock t : ℕ) : Type 0 where
   -- it is later than everything before it
   pub after_last : m.last < t
-  pub after_all : (k : ℕ) → is_key k ≡ true → All (λ v. v.timestamp < t) (ever k)
+  pub after_all : (k : ℕ) → is_key k ≡ true → AllByRecursion (λ v. v.timestamp < t) (ever k)
   -- it is the clock reading, if that is later than last
   pub by_clock : m.last < clock → t ≡ clock
 

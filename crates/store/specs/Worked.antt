@@ -1,6 +1,6 @@
 -- Worked cases on intervals and stores: what each comes to, one line a case.
 use Rattle.std.specs.Prelude.{◌≡◌, ℕ, cond, List, [], ◌∷◌, length, Ok, Err, Result}
-use Rattle.std.specs.List.{AllByRecursion as All}
+use Rattle.std.specs.List.{AllByRecursion}
 use Rattle.snapshot.specs.Intervals.{from_to, meets_reading, narrowed, joined_or_refused}
 use Rattle.snapshot.specs.Refusals.{number_of}
 use Rattle.snapshot.specs.declared.account.Reading.{Reading}
@@ -84,4 +84,4 @@ worked_cases =
 
 -- every case of the table, of which there are n, comes out as it should
 abbrev pub WorkedCases : ℕ → Type 0
-WorkedCases n = (length worked_cases ≡ n) × All (λ c. c.gives ≡ c.should) worked_cases
+WorkedCases n = (length worked_cases ≡ n) × AllByRecursion (λ c. c.gives ≡ c.should) worked_cases

@@ -1,7 +1,7 @@
 -- What dropping first records and adding the records of writes do to a list: its order, its soundness, and the versions
 -- of each key.
 use Rattle.std.proofs.Common.{◌≡◌, ℕ, zero, suc, ◌+◌, ◌-◌, ◌<◌, ◌≤◌, Bool, true, false, cond, ◌&&◌, eqb, ltb, List, [], ◌∷◌, ◌++◌, map, length, drop, Some, None, filter, Option, sym, refl, ap, ◌∙◌, ⊎_elim, arith}
-use Rattle.std.specs.List.{AllByRecursion as All}
+use Rattle.std.specs.List.{AllByRecursion}
 use Rattle.std.proofs.lemmas.List.{append-nil, drop_all, drop-append-le, length_push}
 use Rattle.std.proofs.lemmas.Bool.{and_parts, and_from, cases_Bool, cond_both, cond-true, cond-false, eqb-true, eqb-false, eq-eqb, ne_eqb, ltb-true, ltb-false}
 use Rattle.std.proofs.lemmas.Bool.Decides.{nat_tests}
@@ -53,7 +53,7 @@ order_left e (r ∷ rs) o =
 
 -- each of xs is before each of ys
 abbrev pub Ahead : List Record → List Record → Type 0
-Ahead xs ys = All (λ x. all (is_before x) ys ≡ true) xs
+Ahead xs ys = AllByRecursion (λ x. all (is_before x) ys ≡ true) xs
 
 pub order_both : (xs ys : List Record) → in_order xs ≡ true → in_order ys ≡ true → Ahead xs ys → in_order (xs ++ ys) ≡ true
 order_both [] ys a b ahead = b
@@ -232,7 +232,7 @@ of_key_prune h rs keyed k =
     ap (drop (per_key f k)) none ∙ drop_all (per_key f k) [] (omega arith) ∙ sym (drop_all (f k) [] (omega arith)) ∙ ap (drop (f k)) (sym none))
     (cases_Bool (is_key k))
 
--- All keys together.
+-- AllByRecursion keys together.
 
 -- a record adds one to the versions of the keys below n, if its key is one of them
 one_more_below : (n : ℕ) (r : Record) (rs : List Record) → versions_below n (λ k. of_key k (r ∷ rs)) ≡ versions_below n (λ k. of_key k rs) + cond (ltb r.key n) 1 0

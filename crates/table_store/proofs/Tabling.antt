@@ -1,7 +1,7 @@
 -- A table's memory, its meaning and its layout: what its soundness says, and what a commit and a prune leave.
 use Rattle.std.proofs.Common.{◌≡◌, ℕ, ◌+◌, ◌-◌, ◌<◌, ◌≤◌, min, true, false, cond, ◌&&◌, eqb, ltb, leb, List, [], ◌∷◌, ◌++◌, length, take, drop, replicate, Some, None, Option, sym, refl, ap, ◌∙◌, subst, ⊎_elim, arith}
 use Rattle.std.specs.Option.{option_or}
-use Rattle.std.specs.List.{AllByRecursion as All}
+use Rattle.std.specs.List.{AllByRecursion}
 use Rattle.std.proofs.lemmas.List.{drop_all, length-drop, length-take, take_all, take-append-drop}
 use Rattle.std.proofs.lemmas.Bool.{and_parts, and_from, both_ways, cases_Bool, cond_both, cond-true, cond-false, eqb-true, leb-true, le-leb, lt-leb}
 use Rattle.std.proofs.lemmas.Bool.Decides.{nat_tests}
@@ -111,7 +111,7 @@ zeros_are (r ∷ rs) z =
     let parts = and_parts (is_zero r) (all is_zero rs) z in
     λ i. zero_is r parts.0 i ∷ zeros_are rs parts.1 i
 
-keys_in : (last : ℕ) (rs : List Record) → all (sound_record last) rs ≡ true → All (λ r. is_key r.key ≡ true) rs
+keys_in : (last : ℕ) (rs : List Record) → all (sound_record last) rs ≡ true → AllByRecursion (λ r. is_key r.key ≡ true) rs
 keys_in last [] s = tt
 keys_in last (r ∷ rs) s =
     let parts = and_parts (sound_record last r) (all (sound_record last) rs) s in

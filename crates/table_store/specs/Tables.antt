@@ -1,6 +1,6 @@
 -- The memory of a table store: what it lists, what it means, and how it is laid out.
 use Rattle.std.specs.Prelude.{◌≡◌, ℕ, ◌-◌, ◌<◌, ◌≤◌, min, Bool, true, false, cond, ◌&&◌, ◌||◌, List, [], ◌∷◌, ◌++◌, length, take, drop, replicate, Ok, Err, Result, ◌==◌, nat_le, nat_lt}
-use Rattle.std.specs.List.{AllByRecursion as All}
+use Rattle.std.specs.List.{AllByRecursion}
 use Rattle.snapshot.specs.Accounts.{all, rising_from}
 use Rattle.snapshot.specs.Limits.{keys, least_records, most_records, is_key}
 use Rattle.snapshot.specs.declared.account.Write.{Write}
@@ -75,7 +75,7 @@ pub record LaidOut (m : Meaning) (mem : List Record) : Type 0 where
   pub front : List Record
   pub whole : mem ≡ front ++ replicate (length mem - length front) no_record
   pub ordered : in_order front ≡ true
-  pub in_range : All (λ r. is_key r.key ≡ true) front
+  pub in_range : AllByRecursion (λ r. is_key r.key ≡ true) front
   pub versions : (k : ℕ) → of_key k front ≡ m.kept k
 
 -- and no other records in memory of that size do

@@ -8,5 +8,5 @@ returns c =
     let at = c.args.at in
     let old = c.args.buffer.now in
     let new = c.args.bytes.now in
-    rw c.copy-from-slice.ensures.after
+    rw c.copy_from_slice.ensures.after
     (ap (λ z. take at old ++ (new ++ z)) (drop-drop _ at old ∙ ap (λ n. drop n old) (omega arith)))

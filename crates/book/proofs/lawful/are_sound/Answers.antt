@@ -7,12 +7,12 @@ use Rattle.snapshot.specs.Accounts.{sound_reading, zero_reading}
 use Rattle.snapshot.proofs.Alls.{all_fails, all_passes, all_ends}
 use Rattle.book.proofs.lawful.are_sound.Goals as goal
 
-pub returns-then-not-is-sound : goal.returns-then-not-is-sound
-returns-then-not-is-sound c =
+pub returns-then-not-is_sound : goal.returns-then-not-is_sound
+returns-then-not-is_sound c =
     record {
       value = all_fails sound_reading c.args.readings.now c.loop-reading.reading-index zero_reading
           c.loop-reading-test.true
-          (sym c.if-not-is-sound.ensures.value)
+          (sym c.if-not-is_sound.ensures.value)
           c.loop-reading.invariant.0;
       fits = λ e. absurd (false≢true e);
     }
@@ -21,8 +21,8 @@ pub loop-reading-preserved : goal.loop-reading-preserved
 loop-reading-preserved c =
     let rs = c.args.readings.now in
     let i = c.loop-reading.reading-index in (
-      all_passes sound_reading rs i zero_reading c.loop-reading-test.true (sym c.if-not-is-sound.ensures.value) c.loop-reading.invariant.0,
-      All-more (λ x. x.reading.value < 2 ^ 32) rs i zero_reading c.loop-reading-test.true c.loop-reading.invariant.1 c.is-sound.ensures.fits,
+      all_passes sound_reading rs i zero_reading c.loop-reading-test.true (sym c.if-not-is_sound.ensures.value) c.loop-reading.invariant.0,
+      All-more (λ x. x.reading.value < 2 ^ 32) rs i zero_reading c.loop-reading-test.true c.loop-reading.invariant.1 c.is_sound.ensures.fits,
     )
 
 pub returns : goal.returns

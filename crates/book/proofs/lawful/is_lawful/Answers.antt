@@ -12,14 +12,14 @@ pub returns : goal.returns
 returns c =
     let a = whole c.args.interval c.args.timestamp c.args.readings.now c.args.writes.now in
     let answers =
-    five c.are-few.ensures c.are-sound.ensures.value c.are-rising.ensures.value c.is-agreed.ensures
-    c.is-sound-timestamp.ensures in
+    five c.are_few.ensures c.are_sound.ensures.value c.are_rising.ensures.value c.is_agreed.ensures
+    c.is_sound_timestamp.ensures in
     record {
       value = answers;
       means = λ e. ends_agree a (rules a (sym answers ∙ e)).ends;
       fits = λ e.
           record {
-            readings = c.are-sound.ensures.fits (c.are-sound.ensures.value ∙ (rules a (sym answers ∙ e)).sound);
-            writes = c.are-rising.ensures.fits (c.are-rising.ensures.value ∙ (rules a (sym answers ∙ e)).rising);
+            readings = c.are_sound.ensures.fits (c.are_sound.ensures.value ∙ (rules a (sym answers ∙ e)).sound);
+            writes = c.are_rising.ensures.fits (c.are_rising.ensures.value ∙ (rules a (sym answers ∙ e)).rising);
           };
     }

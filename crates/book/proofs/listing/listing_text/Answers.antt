@@ -11,14 +11,14 @@ loop-head-preserved c =
     text_more c.args.heads.now c.loop-head.head-index _
     c.loop-head-test.true
     c.loop-head.invariant
-    c.as-str.ensures.value
-    c.in-ok-line.ensures.ok
-    c.in-ok-push-str.ensures.bytes
+    c.as_str.ensures.value
+    c.in_ok-line.ensures.ok
+    c.in_ok-push_str.ensures.bytes
 
 pub returns : goal.returns
 returns c =
     let heads = c.args.heads.now in
     let all = take_all c.loop-head.head-index heads c.loop-head-test.false in
-    c.in-ok-push-str-2.ensures.bytes
-    ∙ ap (λ bs. bs ++ c.as-str-2.result.now) (c.loop-head.invariant ∙ ap (flat_map head_line) all)
-    ∙ ap (λ bs. flat_map head_line heads ++ bs) (c.as-str-2.ensures.value ∙ c.in-ok-last.ensures)
+    c.in_ok-push_str-2.ensures.bytes
+    ∙ ap (λ bs. bs ++ c.as_str-2.result.now) (c.loop-head.invariant ∙ ap (flat_map head_line) all)
+    ∙ ap (λ bs. flat_map head_line heads ++ bs) (c.as_str-2.ensures.value ∙ c.in_ok-last.ensures)

@@ -5,6 +5,6 @@ use Rattle.book.proofs.listing.read_head.Goals as goal
 
 pub returns : goal.returns
 returns c =
-    stands_or_refused c.args.book.now (λ i. omega (arith, c.type-inv.book i)) c.args.start _ _ (omega arith) (omega arith)
-    c.read-account.result
-    c.read-account.ensures.value
+    stands_or_refused c.args.book.now (λ i. omega (arith, c.type_inv.book i)) c.args.start _ _ (omega arith) (omega arith)
+    c.read_account.result
+    c.read_account.ensures.value

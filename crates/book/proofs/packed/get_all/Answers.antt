@@ -9,8 +9,8 @@ pub get-requires : goal.get-requires
 get-requires g c =
     omega (arith, within g.T.Packed.size c.args.at c.loop-record.record-index _ _ c.loop-record-test.true c.requires)
 
-pub overflow-add-place : goal.overflow-add-place
-overflow-add-place g c =
+pub overflow_add-place : goal.overflow_add-place
+overflow_add-place g c =
     omega (arith, within g.T.Packed.size c.args.at c.loop-record.record-index _ _ c.loop-record-test.true c.requires)
 
 pub loop-record-preserved : goal.loop-record-preserved

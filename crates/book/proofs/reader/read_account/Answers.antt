@@ -6,18 +6,18 @@ use Rattle.book.specs.Format.{front_account}
 use Rattle.book.proofs.Reading.{read_ok, read_counts, read_within, read_answer, read_accepted}
 use Rattle.book.proofs.reader.read_account.Goals as goal
 
-pub account-size-requires : goal.account-size-requires
-account-size-requires c =
+pub account_size-requires : goal.account_size-requires
+account_size-requires c =
     read_counts
-    (read_ok c.args.book.now c.args.start _ _ c.in-Ok.head (λ i. omega (arith, c.type-inv.book i)) c.from-place.ensures
+    (read_ok c.args.book.now c.args.start _ _ c.in-Ok.head (λ i. omega (arith, c.type_inv.book i)) c.from_place.ensures
     c.in-Ok.ensures.value)
 
-pub overflow-add-result : goal.overflow-add-result
-overflow-add-result c =
+pub overflow_add-result : goal.overflow_add-result
+overflow_add-result c =
     let r =
-    read_ok c.args.book.now c.args.start _ _ c.in-Ok.head (λ i. omega (arith, c.type-inv.book i)) c.from-place.ensures
+    read_ok c.args.book.now c.args.start _ _ c.in-Ok.head (λ i. omega (arith, c.type_inv.book i)) c.from_place.ensures
     c.in-Ok.ensures.value in
-    omega (arith, read_within r, c.account-size.ensures)
+    omega (arith, read_within r, c.account_size.ensures)
 
 pub returns-in-Ok : goal.returns-in-Ok
 returns-in-Ok c =
@@ -27,11 +27,11 @@ returns-in-Ok c =
     let m = length c.args.writes.now in
     let h = c.in-Ok.head in
     let r =
-    read_ok book start n m h (λ i. omega (arith, c.type-inv.book i)) c.from-place.ensures c.in-Ok.ensures.value in
-    let there = ap (λ bs. front_for n m (front_account bs)) c.from-place.ensures in
+    read_ok book start n m h (λ i. omega (arith, c.type_inv.book i)) c.from_place.ensures c.in-Ok.ensures.value in
+    let there = ap (λ bs. front_for n m (front_account bs)) c.from_place.ensures in
     let readings = c.in-Ok.ensures.readings ∙ ap (λ x. overwritten (readings_of x) c.args.readings.now) there in
     let writes = c.in-Ok.ensures.writes ∙ ap (λ x. overwritten (writes_of x) c.args.writes.now) there in
-    let end : start + c.account-size.result ≡ _ = ap (λ k. start + k) c.account-size.ensures in
+    let end : start + c.account_size.result ≡ _ = ap (λ k. start + k) c.account_size.ensures in
     record {
       value = read_answer r _ end;
       readings = readings;

@@ -8,11 +8,11 @@ use Rattle.book.proofs.writer.put_account.Goals as goal
 pub returns : goal.returns
 returns c =
     let a = whole c.args.interval c.args.timestamp c.args.readings.now c.args.writes.now in
-    account_placed a c.args.buffer.now (omega (arith, takes_its_size a)) c.put-all-place.result c.put-all-last.result
-    c.last-byte-sum.result
-    c.put-head.ensures
-    c.put-all-place.ensures.bytes
-    c.put-all-place.ensures.place
-    c.put-all-last.ensures.bytes
-    c.put-all-last.ensures.place
-    c.last-byte-sum.ensures.value
+    account_placed a c.args.buffer.now (omega (arith, takes_its_size a)) c.put_all-place.result c.put_all-last.result
+    c.last_byte-sum.result
+    c.put_head.ensures
+    c.put_all-place.ensures.bytes
+    c.put_all-place.ensures.place
+    c.put_all-last.ensures.bytes
+    c.put_all-last.ensures.place
+    c.last_byte-sum.ensures.value

@@ -11,8 +11,8 @@ pub returns-then-buffer-size : goal.returns-then-buffer-size
 returns-then-buffer-size c =
     let a = whole c.args.interval c.args.timestamp c.args.readings.now c.args.writes.now in
     let old = c.args.buffer.now in
-    let law = sym c.if-not-is-lawful.ensures.value in
-    let short : length old < length (bytes_of a) = omega (arith, takes_its_size a, c.account-size-size.ensures, c.if-buffer-size.true) in
+    let law = sym c.if-not-is_lawful.ensures.value in
+    let short : length old < length (bytes_of a) = omega (arith, takes_its_size a, c.account_size-size.ensures, c.if-buffer-size.true) in
     record {
       value = ap Err c.new-then-buffer-size.ensures ∙ sym (ap (faulted 0) (written_short a law (length old) short));
       after = buffer_short a law old short;
@@ -23,13 +23,13 @@ pub returns : goal.returns
 returns c =
     let a = whole c.args.interval c.args.timestamp c.args.readings.now c.args.writes.now in
     let old = c.args.buffer.now in
-    let law = sym c.if-not-is-lawful.ensures.value in
-    let size : c.account-size-size.result ≡ length (bytes_of a) = c.account-size-size.ensures ∙ sym (takes_its_size a) in
+    let law = sym c.if-not-is_lawful.ensures.value in
+    let size : c.account_size-size.result ≡ length (bytes_of a) = c.account_size-size.ensures ∙ sym (takes_its_size a) in
     let long : length (bytes_of a) ≤ length old = omega (arith, size, c.if-buffer-size.false) in
     record {
       value = ap Ok size ∙ sym (ap (faulted 0) (written_whole a law (length old) long));
-      after = c.put-account.ensures
+      after = c.put_account.ensures
           ∙ ap (λ n. bytes_of a ++ drop n old) (zero-add (length (bytes_of a)))
           ∙ sym (buffer_whole a law old long);
-      back = λ _. reads_back_anywhere a law (c.if-not-is-lawful.ensures.fits refl);
+      back = λ _. reads_back_anywhere a law (c.if-not-is_lawful.ensures.fits refl);
     }

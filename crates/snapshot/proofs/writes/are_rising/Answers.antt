@@ -7,12 +7,12 @@ use Rattle.snapshot.specs.Accounts.{rising_from, zero_write}
 use Rattle.snapshot.proofs.Risings.{rising_fails, rising_passes}
 use Rattle.snapshot.proofs.writes.are_rising.Goals as goal
 
-pub returns-then-not-is-from : goal.returns-then-not-is-from
-returns-then-not-is-from c =
+pub returns-then-not-is_from : goal.returns-then-not-is_from
+returns-then-not-is_from c =
     record {
       value = rising_fails c.loop-write.least c.args.writes.now c.loop-write.write-index
           c.loop-write-test.true
-          (sym c.if-not-is-from.ensures.value)
+          (sym c.if-not-is_from.ensures.value)
           ∙ c.loop-write.invariant.0;
       fits = λ e. absurd (false≢true e);
     }
@@ -21,8 +21,8 @@ pub loop-write-preserved : goal.loop-write-preserved
 loop-write-preserved c =
     let ws = c.args.writes.now in
     let i = c.loop-write.write-index in (
-      rising_passes c.loop-write.least ws i c.loop-write-test.true (sym c.if-not-is-from.ensures.value) ∙ c.loop-write.invariant.0,
-      All-more (λ w. w.value < 2 ^ 32) ws i zero_write c.loop-write-test.true c.loop-write.invariant.1 c.is-from.ensures.fits,
+      rising_passes c.loop-write.least ws i c.loop-write-test.true (sym c.if-not-is_from.ensures.value) ∙ c.loop-write.invariant.0,
+      All-more (λ w. w.value < 2 ^ 32) ws i zero_write c.loop-write-test.true c.loop-write.invariant.1 c.is_from.ensures.fits,
     )
 
 pub returns : goal.returns

@@ -6,10 +6,10 @@ use Rattle.store.proofs.Runs.{answers_more, answers_all, after_more, after_all_c
 use Rattle.store.proofs.calls.run.Goals as goal
 
 pub loop-call-init : goal.loop-call-init
-loop-call-init g c = (refl, refl, omega (arith, c.in-ok-reserve.ensures.ok refl))
+loop-call-init g c = (refl, refl, omega (arith, c.in_ok-reserve.ensures.ok))
 
-pub push-reserved-requires : goal.push-reserved-requires
-push-reserved-requires g c = omega (arith, c.loop-call.invariant.2, c.loop-call-test.true)
+pub push_reserved-requires : goal.push_reserved-requires
+push_reserved-requires g c = omega (arith, c.loop-call.invariant.2, c.loop-call-test.true)
 
 pub loop-call-preserved : goal.loop-call-preserved
 loop-call-preserved g c =
@@ -19,9 +19,9 @@ loop-call-preserved g c =
     let lt = c.loop-call-test.true in
     let m = g.S.Reads.meaning c.loop-call.store in
     let left = c.perform-answer.ensures.after in (
-      answers_more depth calls i _ lt m _ (vec_items c.loop-call.answers) _ _ c.push-reserved.ensures.items c.perform-answer.ensures.answer left ∙ c.loop-call.invariant.0,
+      answers_more depth calls i _ lt m _ (vec_items c.loop-call.answers) _ _ c.push_reserved.ensures.items c.perform-answer.ensures.answer left ∙ c.loop-call.invariant.0,
       after_more depth calls i _ lt m _ left ∙ c.loop-call.invariant.1,
-      omega (arith, c.loop-call.invariant.2, c.push-reserved.ensures.len, c.push-reserved.ensures.capacity),
+      omega (arith, c.loop-call.invariant.2, c.push_reserved.ensures.len, c.push_reserved.ensures.capacity),
     )
 
 pub returns : goal.returns
@@ -35,7 +35,7 @@ returns g c =
     record {
       answers = sym (answers_all depth calls i past m (vec_items c.loop-call.answers))
           ∙ c.loop-call.invariant.0
-          ∙ ap (λ xs. xs ++ answers_of depth calls (g.S.Reads.meaning c.args.store.now)) c.in-ok-reserve.ensures.items;
+          ∙ ap (λ xs. xs ++ answers_of depth calls (g.S.Reads.meaning c.args.store.now)) c.in_ok-reserve.ensures.items;
       after = left;
       succeeds = λ _. refl;
       laws = calls_keep_laws depth g.S.Store.depth.not_none calls _ m left;

@@ -7,4 +7,4 @@ use Rattle.table_store.proofs.log.count_left.Given as goal
 abbrev pub invariant-loop-place : goal.invariant-loop-place
 invariant-loop-place g l =
     let rs = g.L.Records.records l.log in
-    (l.left + length (drop_firsts (number_for l.to-drop) (drop l.place rs)) ≡ length (drop_firsts (number_for l.initial.to-drop) rs)) × (l.left ≤ l.place)
+    (l.left + length (drop_firsts (number_for l.to_drop) (drop l.place rs)) ≡ length (drop_firsts (number_for l.initial.to_drop) rs)) × (l.left ≤ l.place)

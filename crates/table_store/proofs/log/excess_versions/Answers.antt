@@ -16,10 +16,10 @@ loop-write-preserved g c =
     let rs = g.L.Records.records c.args.log.now in
     let ws = c.args.writes.now in
     let i = c.loop-write.write-index in
-    excess_more c.args.depth rs ws i c.loop-write-test.true _ _ _ _ c.loop-write.invariant c.count-versions-counts.ensures c.get-count.ensures
+    excess_more c.args.depth rs ws i c.loop-write-test.true _ _ _ _ c.loop-write.invariant c.count_versions-counts.ensures c.get-count.ensures
     (λ k. c.set.ensures k
     ∙ ap (λ n. with (number_for c.loop-write.excess) (get_or ws i zero_write).key n k)
-    (c.saturating-sub.ensures ∙ ap (λ m. c.get-count.result - m) c.saturating-sub-others.ensures))
+    (c.saturating_sub.ensures ∙ ap (λ m. c.get-count.result - m) c.saturating_sub-others.ensures))
 
 pub returns : goal.returns
 returns g c =

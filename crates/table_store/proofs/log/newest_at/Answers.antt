@@ -27,7 +27,7 @@ pub loop-place-preserved-then-record-key : goal.loop-place-preserved-then-record
 loop-place-preserved-then-record-key g c =
     let rs = g.L.Records.records c.args.log.now in
     let is = c.at-record.ensures in
-    ap (λ e. newest_at c.args.time e (of_key c.args.key (take (c.loop-place.place - 1) rs))) (c.last-time-before-promise.ensures ∙ ap (λ r. r.timestamp - 1) is)
+    ap (λ e. newest_at c.args.time e (of_key c.args.key (take (c.loop-place.place - 1) rs))) (c.last_time_before-promise.ensures ∙ ap (λ r. r.timestamp - 1) is)
     ∙ sym (looked_later c.args.key c.args.time c.loop-place.promise rs c.loop-place.place c.loop-place-test.true (omega arith)
     (eq-eqb _ _ (sym (ap (λ r. r.key) is) ∙ c.if-record-key.true))
     (omega (arith, ap (λ r. r.timestamp) is)))

@@ -11,10 +11,10 @@ use Rattle.table_store.proofs.log.outdated_versions.Goals.{then-record-horizon, 
 pub loop-place-init : goal.loop-place-init
 loop-place-init g c = (none_yet _ c.none-counts.ensures _ (λ k. refl), none_yet _ c.none-older.ensures _ (λ k. refl))
 
-pub overflow-add-count : goal.overflow-add-count
-overflow-add-count g c =
+pub overflow_add-count : goal.overflow_add-count
+overflow_add-count g c =
     let rs = g.L.Records.records c.args.log.now in
-    omega (arith, c.get-count.ensures, c.loop-place.invariant.0 c.at-record.result.key, counted_le rs c.loop-place.place c.at-record.result.key, c.loop-place-test.true, c.count-place-end.type-inv)
+    omega (arith, c.get-count.ensures, c.loop-place.invariant.0 c.at-record.result.key, counted_le rs c.loop-place.place c.at-record.result.key, c.loop-place-test.true, c.count-place-end.type_inv)
 
 pub loop-place-preserved : goal.loop-place-preserved
 loop-place-preserved g c =

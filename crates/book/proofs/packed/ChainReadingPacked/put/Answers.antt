@@ -16,7 +16,7 @@ returns c =
     let worker = placed_one old at r.worker (omega arith) in
     let key = placed_one (set old at r.worker) (at + 1) r.key (omega (arith, length-set old at r.worker)) in
     let two = placed_then at (r.worker ∷ []) old (omega arith) (at + 1) (r.key ∷ []) refl worker key in
-    let three = placed_then at names old (omega arith) (at + 2) value refl two c.put-u32.ensures in
-    let four = placed_then at (names ++ value) old (omega arith) (at + 6) timestamp refl three c.put-u64.ensures in
+    let three = placed_then at names old (omega arith) (at + 2) value refl two c.put_u32.ensures in
+    let four = placed_then at (names ++ value) old (omega arith) (at + 6) timestamp refl three c.put_u64.ensures in
     placed_then at ((names ++ value) ++ timestamp) old (omega arith) (at + 14) (big_endian 8 r.reading.promise) refl four
-    c.put-u64-2.ensures
+    c.put_u64-2.ensures

@@ -10,4 +10,4 @@ returns c =
     let at = c.args.at in
     let old = c.args.buffer.now in
     let key = placed_one old at w.key (omega arith) in
-    placed_then at (w.key ∷ []) old (omega arith) (at + 1) (big_endian 4 w.value) refl key c.put-u32.ensures
+    placed_then at (w.key ∷ []) old (omega arith) (at + 1) (big_endian 4 w.value) refl key c.put_u32.ensures

@@ -8,6 +8,6 @@ returns c =
     let ws = c.args.writes.now in
     let s = c.args.self.now in
     record {
-      meaning = with_writes_lem t ws s _ c.requires c.put-all.ensures;
-      room = room_after t ws s _ c.requires c.put-all.ensures;
+      meaning = with_writes_lem t ws s _ c.requires c.put_all.ensures;
+      room = room_after t ws s _ c.requires c.put_all.ensures;
     }

@@ -4,16 +4,16 @@ use Rattle.table_store.proofs.Changing.{table_prune, table_prune_unfit}
 use Rattle.table_store.proofs.Tabling.{held, unfit_from_room}
 use Rattle.table_store.proofs.table.Table.forget.Goals as goal
 
-pub invariant-of-self : goal.invariant-of-self
-invariant-of-self c =
-    let ensures = c.drop-outdated.ensures in
-    let changed = table_prune c.args.self.now c.args.time c.drop-outdated.new.log (omega (arith, c.room.ensures, c.if-room-gt0.true)) ensures.places ensures.after ensures.tidy in
+pub invariant_of-self : goal.invariant_of-self
+invariant_of-self c =
+    let ensures = c.drop_outdated.ensures in
+    let changed = table_prune c.args.self.now c.args.time c.drop_outdated.new.log (omega (arith, c.room.ensures, c.if-room-gt0.true)) ensures.places ensures.after ensures.tidy in
     (changed.sound, tt)
 
 pub returns-then-room-gt0 : goal.returns-then-room-gt0
 returns-then-room-gt0 c =
-    let ensures = c.drop-outdated.ensures in
-    let changed = table_prune c.args.self.now c.args.time c.drop-outdated.new.log (omega (arith, c.room.ensures, c.if-room-gt0.true)) ensures.places ensures.after ensures.tidy in
+    let ensures = c.drop_outdated.ensures in
+    let changed = table_prune c.args.self.now c.args.time c.drop_outdated.new.log (omega (arith, c.room.ensures, c.if-room-gt0.true)) ensures.places ensures.after ensures.tidy in
     record { meaning = changed.meaning; laid = held _ _ c.args.self.now.last changed.sound; alone = changed.alone }
 
 pub returns-else-room-gt0 : goal.returns-else-room-gt0

@@ -8,10 +8,10 @@ use Rattle.table_store.specs.Tables.{sound_table, table_meaning}
 use Rattle.table_store.specs.declared.slice.RecordSlice.{RecordSlice}
 use Rattle.table_store.proofs.table.Table.write.Goals as goal
 
-pub returns-then-not-write-all : goal.returns-then-not-write-all
-returns-then-not-write-all c =
+pub returns-then-not-write_all : goal.returns-then-not-write_all
+returns-then-not-write_all c =
     let t = c.args.self.now in
-    let result = c.if-not-write-all.ensures in
+    let result = c.if-not-write_all.ensures in
     let same = result.unchanged refl in
     let Sound : RecordSlice → Type 0 = λ l. sound_table l.memory.now l.kept t.last ≡ true in
     record {
@@ -22,17 +22,17 @@ returns-then-not-write-all c =
       alone = λ _. ap (λ l. l.memory.now) same;
     }
 
-pub invariant-of-self-2 : goal.invariant-of-self-2
-invariant-of-self-2 c =
-    let result = c.if-not-write-all.ensures in
-    let changed = table_write c.args.self.now c.args.timestamp c.args.writes.now c.requires result.answer c.write-all.new.log result.places (result.after refl) result.tidy in
+pub invariant_of-self-2 : goal.invariant_of-self-2
+invariant_of-self-2 c =
+    let result = c.if-not-write_all.ensures in
+    let changed = table_write c.args.self.now c.args.timestamp c.args.writes.now c.requires result.answer c.write_all.new.log result.places (result.after refl) result.tidy in
     (changed.sound, tt)
 
 pub returns : goal.returns
 returns c =
     let t = c.args.self.now in
-    let result = c.if-not-write-all.ensures in
-    let changed = table_write t c.args.timestamp c.args.writes.now c.requires result.answer c.write-all.new.log result.places (result.after refl) result.tidy in
+    let result = c.if-not-write_all.ensures in
+    let changed = table_write t c.args.timestamp c.args.writes.now c.requires result.answer c.write_all.new.log result.places (result.after refl) result.tidy in
     record {
       answer = result.answer ∙ table_room t c.args.timestamp c.args.writes.now c.requires;
       meaning = changed.meaning;
