@@ -1,4 +1,6 @@
 // The book of accounts: an account's bytes, written and read, and the reading of a whole book.
+#![tactic(auto)]
+
 mod bytes;
 pub mod lawful;
 pub mod listing;
