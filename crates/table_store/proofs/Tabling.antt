@@ -1,5 +1,5 @@
 -- A table's memory, its meaning and its layout: what its soundness says, and what a commit and a prune leave.
-use Rattle.std.proofs.Common.{◌≡◌, ℕ, ◌+◌, ◌-◌, ◌<◌, ◌≤◌, min, true, false, cond, ◌&&◌, eqb, ltb, leb, List, [], ◌∷◌, ◌++◌, length, take, drop, replicate, Some, None, Option, sym, refl, ap, ◌∙◌, subst, ⊎_elim, arith}
+use Rattle.std.proofs.Common.{◌≡◌, ℕ, ◌-◌, ◌<◌, ◌≤◌, min, true, false, cond, ◌&&◌, eqb, ltb, leb, List, [], ◌∷◌, ◌++◌, length, take, drop, replicate, Some, None, Option, sym, refl, ap, ◌∙◌, subst, ⊎_elim, arith}
 use Rattle.std.specs.Option.{option_or}
 use Rattle.std.specs.List.{AllByRecursion}
 use Rattle.std.proofs.lemmas.List.{drop_all, length-drop, length-take, take_all, take-append-drop}
@@ -8,7 +8,7 @@ use Rattle.std.proofs.lemmas.Bool.Decides.{nat_tests}
 use Rattle.snapshot.specs.Accounts.{all}
 use Rattle.snapshot.specs.Limits.{keys, is_key}
 use Rattle.snapshot.specs.declared.account.Write.{Write}
-use Rattle.store.specs.Meaning.{Meaning, version_of, new_store, in_range, newest_at, reading_of, written_to, kept_with, with_writes, versions_below, versions_kept, outdated}
+use Rattle.store.specs.Meaning.{Meaning, version_of, new_store, newest_at, reading_of, written_to, kept_with, with_writes, versions_below, versions_kept, outdated}
 use Rattle.store.specs.declared.version.Version.{Version}
 use Rattle.table_store.proofs.Adding.{after_length}
 use Rattle.table_store.proofs.Layouts.{all_from, all_left, order_left, commit_sound, commit_order, of_key_commit, of_key_prune, versions_together, first_sound, first_order, first_length, first_kept}

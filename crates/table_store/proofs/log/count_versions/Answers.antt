@@ -11,12 +11,12 @@ loop-place-init g c = none_yet _ c.none-counts.ensures _ (λ k. refl)
 pub overflow_add-count : goal.overflow_add-count
 overflow_add-count g c =
     let rs = g.L.Records.records c.args.log.now in
-    omega (arith, c.get-count.ensures, c.loop-place.invariant c.at_key.result.key, counted_le rs c.loop-place.place c.at_key.result.key, c.loop-place-test.true, c.count-place-end.type_inv)
+    omega (arith, c.get-count.ensures, c.loop-place.invariant c.at-key.result.key, counted_le rs c.loop-place.place c.at-key.result.key, c.loop-place-test.true, c.count-place-end.type_inv)
 
 pub loop-place-preserved : goal.loop-place-preserved
 loop-place-preserved g c =
     let rs = g.L.Records.records c.args.log.now in
-    count_more rs c.loop-place.place (omega arith) c.at_key.result c.at_key.ensures _ _ _ c.loop-place.invariant c.get-count.ensures c.set.ensures
+    count_more rs c.loop-place.place (omega arith) c.at-key.result c.at-key.ensures _ _ _ c.loop-place.invariant c.get-count.ensures c.set.ensures
 
 pub returns : goal.returns
 returns g c =

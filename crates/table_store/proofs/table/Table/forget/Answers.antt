@@ -8,7 +8,7 @@ pub invariant_of-self : goal.invariant_of-self
 invariant_of-self c =
     let ensures = c.drop_outdated.ensures in
     let changed = table_prune c.args.self.now c.args.time c.drop_outdated.new.log (omega (arith, c.room.ensures, c.if-room-gt0.true)) ensures.places ensures.after ensures.tidy in
-    (changed.sound, tt)
+    record { sound = changed.sound }
 
 pub returns-then-room-gt0 : goal.returns-then-room-gt0
 returns-then-room-gt0 c =

@@ -26,7 +26,7 @@ pub invariant_of-self-2 : goal.invariant_of-self-2
 invariant_of-self-2 c =
     let result = c.if-not-write_all.ensures in
     let changed = table_write c.args.self.now c.args.timestamp c.args.writes.now c.requires result.answer c.write_all.new.log result.places (result.after refl) result.tidy in
-    (changed.sound, tt)
+    record { sound = changed.sound }
 
 pub returns : goal.returns
 returns c =
