@@ -1,6 +1,6 @@
 -- A commit keeps the invariant of a life, and its account is confirmed: what the law says of it, but for the times of the
 -- reads, each of which is backed by a true reading that covers the account's interval.
-use Rattle.std.proofs.Common.{◌≡◌, ℕ, zero, suc, ◌<◌, ◌≤◌, min, max, Bool, true, not, ◌&&◌, ◌||◌, eqb, ltb, leb, List, [], ◌∷◌, ◌++◌, map, length, IfSome, Some, None, Ok, Err, fold, Option, sym, refl, ap, ◌∙◌, subst, ⊎_elim, arith}
+use Rattle.std.proofs.Common.{◌≡◌, ℕ, zero, suc, ◌<◌, ◌≤◌, min, max, Bool, true, not, ◌&&◌, ◌||◌, eqb, ltb, leb, List, [], ◌∷◌, ◌++◌, map, length, IfSome, Some, None, Ok, Err, fold, Option, Result, sym, refl, ap, ◌∙◌, subst, ⊎_elim, arith}
 use mathlib.Core.Path.{fun_ext}
 use Rattle.std.specs.List.{AllByRecursion}
 use Rattle.std.proofs.ByRecursion.{all-has, All-map, All-weaker}
@@ -13,9 +13,10 @@ use Rattle.snapshot.specs.Limits as limit
 use Rattle.snapshot.specs.declared.account.ChainReading.{ChainReading}
 use Rattle.snapshot.specs.declared.account.Reading.{Reading}
 use Rattle.snapshot.specs.declared.account.Write.{Write}
+use Rattle.snapshot.specs.declared.fault.Fault.{Fault}
 use Rattle.snapshot.specs.declared.interval.Interval.{Interval}
 use Rattle.store.specs.Laws.{versions_of}
-use Rattle.store.specs.Meaning.{Meaning, commit_answer, with_writes, written_to}
+use Rattle.store.specs.Meaning.{Meaning, commit_answer, if_room, timestamp_for, with_writes, written_to}
 use Rattle.store.proofs.Standing.{accepted as commit-accepted, commit_stands}
 use Rattle.store.proofs.Versions.{before_from_up_to}
 use Rattle.lives.specs.Engines.{OpenLeg, LegState, unused, running, ended, is_running, Chain, Engine, with_place}
@@ -147,6 +148,19 @@ abbrev pub IfAccepted : {X : Type 0} → (X → Engine → Type 0) → Outcome X
 IfAccepted P (refused f) = Unit {0}
 IfAccepted P (accepted x s) = P x s
 
+-- A commit that is accepted has a timestamp that a commit can have.
+
+issued_timestamp : (clock : ℕ) (ws : List Write) (last t : ℕ) → timestamp_for clock ws last ≡ Ok t → is_timestamp t ≡ true
+issued_timestamp clock ws last t e = grind (arith, nat_tests)
+
+taken_where_room : (depth : ℕ) (ws : List Write) (m : Meaning) (r : Result ℕ Fault) (t : ℕ) → if_room depth ws m r ≡ Ok t → r ≡ Ok t
+taken_where_room depth ws m (Ok u) t e = grind (arith, nat_tests)
+taken_where_room depth ws m (Err f) t e = e
+
+accepted_timestamp : (depth clock : ℕ) (ws : List Write) (m : Meaning) (t : ℕ) → commit_answer depth clock ws m ≡ Ok t → is_timestamp t ≡ true
+accepted_timestamp depth clock ws m t e =
+    issued_timestamp clock ws m.last t (taken_where_room depth ws m (timestamp_for clock ws m.last) t e)
+
 module _
     (caches : CacheRules) (write_sets : WriteSetRules) (limits : ChainLimits) (limit_laws : LimitLaws limits)
     (store : NewStore) (h : History) (told : ℕ → ChainTold) (m : Meaning) (s : Engine) (sound : Sound store limits h told m s)
@@ -178,7 +192,7 @@ module _
         record {
           same_store = ap (with_writes depth t ws) sound.same_store;
           stands = commit_stands depth store.capacity s.store h sound.stands clock ws t store.depth.not_none answer;
-          before_end = ltb-true t open_end (and_parts _ _ a.of_commit).1;
+          before_end = ltb-true t open_end (and_parts _ _ (accepted_timestamp depth clock ws s.store t answer)).1;
           caches = λ w. All-weaker (λ e. TrueReading h last e.key e.reading) (λ e. TrueReading h' t e.key e.reading) (λ e. true_on h last h' t on e.key e.reading) (s.caches w) (sound.caches w);
           notices = raised_wait (λ n. TrueReading h' t n.key n.reading) caches.holds_key s.caches t ws s.notices noticed (All-weaker (λ n. TrueReading h last n.key n.reading) (λ n. TrueReading h' t n.key n.reading) (λ n. true_on h last h' t on n.key n.reading) s.notices.waiting sound.notices);
           chains = at_each (λ q c. IfSome c (ChainSound h' t limits (told q))) p None s.places tt others;
@@ -230,7 +244,7 @@ module _
           let on = commit_goes_on h last t ws a.after_last in
           let known = promises_known h last limits limit_laws (told p) chain before l leg is_open only sound.before_end in
           let later : AllByRecursion (λ r. r.reading.promise < t) (map (λ r. r.made) chain.readings) = All-weaker (λ r. r.reading.promise ≤ last) (λ r. r.reading.promise < t) (λ r le. omega (arith, a.after_last)) _ known in
-          let time : sound_timestamp t (map (λ r. r.made) chain.readings) ws ≡ true = and_from _ _ a.of_commit (all_pass (λ r. ltb r.reading.promise t) _ (All-weaker (λ r. r.reading.promise < t) (λ r. ltb r.reading.promise t ≡ true) (λ r lt. lt-ltb _ _ lt) _ later)) in
+          let time : sound_timestamp t (map (λ r. r.made) chain.readings) ws ≡ true = and_from _ _ (accepted_timestamp depth clock ws s.store t answer) (all_pass (λ r. ltb r.reading.promise t) _ (All-weaker (λ r. r.reading.promise < t) (λ r. ltb r.reading.promise t ≡ true) (λ r lt. lt-ltb _ _ lt) _ later)) in
           let on_backed : (x : ValueRead) → Backed h last i.low i.high x → Backed (with_commit t ws) t i.low i.high x = λ x b. record {
             reading = b.reading;
             is_true = true_on h last (with_commit t ws) t on x.key b.reading b.is_true;

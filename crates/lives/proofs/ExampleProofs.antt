@@ -18,12 +18,12 @@ zones = version_of 0 0 ∷ version_of 10 5 ∷ version_of 30 6 ∷ []
 
 six_at_thirty : ValueAt 30 6 zones
 six_at_thirty =
-    (version_of 30 6, record { there = (2, omega arith, λ _. refl); not_later = omega arith; newest_one = (λ _. omega arith, λ _. omega arith, λ _. omega arith, tt) }, refl)
+    (version_of 30 6, record { there = (2, omega arith, λ _. refl); not_later = omega arith; newest_one = (λ _. omega arith, (λ _. omega arith, (λ _. omega arith, tt))) }, refl)
 
 not_five_at_thirty : ValueAt 30 5 zones → ⊥
 not_five_at_thirty (v, held, five) =
-    let none : AllByRecursion (λ w. 30 ≤ w.timestamp → w.value ≡ 5 → ⊥) zones = (λ late _. omega arith, λ late _. omega arith, λ _ five. omega arith, tt) in
-    all-has (λ w. 30 ≤ w.timestamp → w.value ≡ 5 → ⊥) zones v none held.there (held.newest_one.2.0 (omega arith)) five
+    let none : AllByRecursion (λ w. 30 ≤ w.timestamp → w.value ≡ 5 → ⊥) zones = (λ late _. absurd (omega arith), (λ late _. absurd (omega arith), (λ _ five. absurd (omega arith), tt))) in
+    all-has (λ w. 30 ≤ w.timestamp → w.value ≡ 5 → ⊥) zones v none held.there (held.newest_one.1.1.0 (omega arith)) five
 
 pub break_in_lem : BreakIn
 unfolding check with_chain with_open with_open_leg if_free with_result or_else versions_below
@@ -37,7 +37,7 @@ break_in_lem =
       set_record = at_twenty.1.0;
       zone_since = six_at_thirty;
       late = refl;
-      dropped = λ has. absurd (all-has (λ v. v.timestamp ≡ 30) (version_of 30 6 ∷ []) (version_of 10 5) (refl, tt) has);
+      dropped = λ has. let same : 10 ≡ 30 = all-has (λ v. v.timestamp ≡ 30) (version_of 30 6 ∷ []) (version_of 10 5) (refl, tt) has in omega arith;
       refused = refl;
       gone = (the_rules_lawful.by_calls table (pruned ++ (call.Read 0 3 7 ∷ []))).reads.0 0 3 7 _ refl refl;
     }

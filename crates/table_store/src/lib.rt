@@ -2,9 +2,9 @@
 // written once, for every memory that can hold such a list.
 #![tactic(auto)]
 
+pub mod as_store;
 mod log;
 mod per_key;
 pub mod record;
 mod slice;
-pub mod store;
 pub mod table;

@@ -1,7 +1,7 @@
 -- Fit memory lists the records of a new store; unfit memory is as it was.
 use Rattle.std.proofs.Common.{arith}
 use Rattle.table_store.proofs.Tabling.{fit_from_room, new_in_fit, new_in_unfit, unfit_from_room}
-use Rattle.table_store.proofs.store.first_list.Goals as goal
+use Rattle.table_store.proofs.as_store.first_list.Goals as goal
 
 pub returns-then-room-gt0 : goal.returns-then-room-gt0
 returns-then-room-gt0 c =
