@@ -1,3 +1,5 @@
+#![tactic(auto)]
+
 // Lists the books of data/, sound, cut and damaged ones, each behind a line with its name; the tests of writer and reader
 // stand in `tests`.
 #[cfg(test)]

@@ -1,4 +1,6 @@
 // Prints the accounts of the book on standard input, of which the first 65,536 bytes count.
+#![tactic(auto)]
+
 use book::listing::{listing_text, read_book};
 use std::io::Read;
 

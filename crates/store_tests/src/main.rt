@@ -1,6 +1,8 @@
 // Runs pseudo-random calls on tables of four sizes and on the newest store. It prints a line for each answer, and after
 // every hundred calls on a table a number drawn from all its records. The lines in `stdout` were computed by another
 // implementation of the rules. The tests of both stores stand in `tests`.
+#![tactic(auto)]
+
 mod chance;
 #[cfg(test)]
 mod tests;
@@ -9,8 +11,7 @@ use chance::Chance;
 use newest_store::newest::Newest;
 use snapshot::account::Reading;
 use snapshot::fault::Fault;
-use std::fmt;
-use std::fmt::Write;
+use std::alloc::AllocError;
 use store::calls::{StoreAnswer, perform};
 use store::traits::{Reads, Store};
 use table_store::record::{NO_RECORD, Record};
@@ -25,7 +26,7 @@ struct Plan {
 }
 
 // A line with the call's letter and what it answered.
-fn show(answer: StoreAnswer, text: &mut String) -> fmt::Result {
+fn show(answer: StoreAnswer, text: &mut String) -> Result<(), AllocError> {
     match answer {
         StoreAnswer::Last(last) => writeln!(text, "l {last}"),
         StoreAnswer::Version(Ok(reading)) => {
@@ -44,7 +45,7 @@ fn show(answer: StoreAnswer, text: &mut String) -> fmt::Result {
 }
 
 // The call's letter, the refusal's number, and the key that the fault names.
-fn show_fault(letter: char, fault: Fault, text: &mut String) -> fmt::Result {
+fn show_fault(letter: char, fault: Fault, text: &mut String) -> Result<(), AllocError> {
     let number = fault.refusal.number();
     let key = fault.key;
     writeln!(text, "{letter} refused {number} {key}")

@@ -5,6 +5,7 @@ use snapshot::account::Write;
 use snapshot::fault::{Fault, Layer};
 use snapshot::limits::{KEYS, OPEN_END};
 use std::alloc::{AllocError, Global};
+use std::fmt::Display;
 use std::process::Abort;
 use std::test::Fail;
 use store::calls::{StoreAnswer, StoreCall, run};
@@ -87,6 +88,17 @@ fn answers<S: Store>(
     store: &mut S,
     steps: &[(StoreCall, Seen)],
 ) -> Result<(), Fail> {
+    answers_named(rt, heap, "the store", store, steps)
+}
+
+// The same; where an answer is another, the message begins with the name.
+fn answers_named<N: Display + Drop, S: Store>(
+    rt: &impl Abort,
+    heap: Global,
+    name: N,
+    store: &mut S,
+    steps: &[(StoreCall, Seen)],
+) -> Result<(), Fail> {
     let mut calls = Vec::new(heap);
     for (call, _) in steps {
         calls.push(*call)?;
@@ -95,7 +107,7 @@ fn answers<S: Store>(
     run(store, calls.as_slice(), &mut given)?;
     assert_eq!(rt; given.len(), steps.len());
     for (number, (answer, (_, expected))) in given.iter().zip(steps).enumerate() {
-        assert_eq!(rt; seen_answer(rt, *answer)?, *expected, "{}", number);
+        assert_eq!(rt; seen_answer(rt, *answer)?, *expected, "{name} {number}");
     }
     Ok(())
 }
@@ -103,8 +115,8 @@ fn answers<S: Store>(
 // A new table of 200 records and a new newest store both answer each call so.
 fn both_answer(rt: &impl Abort, heap: Global, steps: &[(StoreCall, Seen)]) -> Result<(), Fail> {
     let mut memory = [USED; 200];
-    answers(rt, heap, &mut Table::new(&mut memory), steps).note("table")?;
-    answers(rt, heap, &mut Newest::new(), steps).note("newest")
+    answers_named(rt, heap, "table", &mut Table::new(&mut memory), steps)?;
+    answers_named(rt, heap, "newest", &mut Newest::new(), steps)
 }
 
 // Gives key 1 versions at 10 and 30 after its first, and key 2 one at 45, which is then last.
@@ -657,9 +669,10 @@ fn prune_drops_what_is_older_than_the_version_at_the_horizon(rt: HostRuntime) ->
         let mut memory = [USED; 72];
         let mut table = Table::new(&mut memory);
         fill(&rt, heap, &mut table)?;
-        answers(
+        answers_named(
             &rt,
             heap,
+            horizon,
             &mut table,
             &[
                 (prune(horizon), Seen::Prune),
@@ -671,8 +684,7 @@ fn prune_drops_what_is_older_than_the_version_at_the_horizon(rt: HostRuntime) ->
                 (version(3, 0), Seen::Version(0, 0, 45)),
                 (StoreCall::Last, Seen::Last(45)),
             ],
-        )
-        .note(horizon)?;
+        )?;
     }
     Ok(())
 }
@@ -702,9 +714,10 @@ fn prune_leaves_the_newest_store_as_it_is(rt: HostRuntime) -> Result<(), Fail> {
     let mut newest = Newest::new();
     fill(&rt, heap, &mut newest)?;
     for horizon in [0, 29, 45, u64::MAX] {
-        answers(
+        answers_named(
             &rt,
             heap,
+            horizon,
             &mut newest,
             &[
                 (prune(horizon), Seen::Prune),
@@ -713,8 +726,7 @@ fn prune_leaves_the_newest_store_as_it_is(rt: HostRuntime) -> Result<(), Fail> {
                 (version(1, 30), Seen::Version(13, 30, 45)),
                 (version(3, 0), Seen::Version(0, 0, 45)),
             ],
-        )
-        .note(horizon)?;
+        )?;
     }
     Ok(())
 }
@@ -812,17 +824,18 @@ fn memory_of_64_to_1_024_records_is_fit(rt: HostRuntime) {
 }
 
 // The memory is refused, and a table in it leaves it alone, answers as a new store and takes no commit.
-fn is_unfit(rt: &impl Abort, heap: Global, memory: &mut [Record]) -> Result<(), Fail> {
+fn is_unfit(rt: &impl Abort, heap: Global, name: &str, memory: &mut [Record]) -> Result<(), Fail> {
     let before = memory.to_vec(heap)?;
     let Err(fault) = Table::check(memory) else {
         return Err(Fail::new("taken as fit"));
     };
-    assert_eq!(rt; seen_fault(rt, fault)?, Seen::Refused(17, 255));
+    assert_eq!(rt; seen_fault(rt, fault)?, Seen::Refused(17, 255), "{name}");
     let mut table = Table::new(memory);
-    assert_eq!(rt; table.records(), before.as_slice());
-    answers(
+    assert_eq!(rt; table.records(), before.as_slice(), "{name}");
+    answers_named(
         rt,
         heap,
+        name,
         &mut table,
         &[
             (StoreCall::Last, Seen::Last(0)),
@@ -839,14 +852,14 @@ fn is_unfit(rt: &impl Abort, heap: Global, memory: &mut [Record]) -> Result<(), 
             (version(9, 10), Seen::Version(0, 0, 0)),
         ],
     )?;
-    assert_eq!(rt; table.records(), before.as_slice());
+    assert_eq!(rt; table.records(), before.as_slice(), "{name}");
     Ok(())
 }
 
 #[test]
 fn memory_of_another_size_is_unfit(rt: HostRuntime) -> Result<(), Fail> {
     let heap = rt.alloc();
-    is_unfit(&rt, heap, &mut []).note("no records")?;
-    is_unfit(&rt, heap, &mut [USED; 63]).note("63 records")?;
-    is_unfit(&rt, heap, &mut [USED; 1025]).note("1,025 records")
+    is_unfit(&rt, heap, "no records", &mut [])?;
+    is_unfit(&rt, heap, "63 records", &mut [USED; 63])?;
+    is_unfit(&rt, heap, "1,025 records", &mut [USED; 1025])
 }
