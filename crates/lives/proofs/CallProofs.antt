@@ -1,26 +1,23 @@
 -- Every call but commit keeps the invariant of a life.
-use Rattle.std.proofs.Common.{◌≡◌, ℕ, zero, suc, ◌<◌, ◌≤◌, min, max, Bool, true, false, cond, not, ◌&&◌, eqb, ltb, leb, List, [], ◌∷◌, ◌++◌, length, Some, None, Ok, Err, Option, Result, sym, refl, ap, ◌∙◌, subst, inl, inr, ⊎_elim, arith, MatchOption}
+use Rattle.std.proofs.Common.{◌≡◌, ℕ, suc, ◌<◌, ◌≤◌, min, max, true, cond, ◌&&◌, eqb, leb, List, [], ◌∷◌, length, Some, None, Ok, Option, sym, refl, ap, ◌∙◌, subst, ⊎_elim, arith}
 use Rattle.std.specs.Option.{option_or}
 use Rattle.std.specs.List.{ContainsAt as Has, AllByRecursion}
 use Rattle.std.proofs.ByRecursion.{all-has, All-weaker, has_append_right}
-use Rattle.std.proofs.lemmas.Option.{MatchOption-at_some}
 use Rattle.std.proofs.lemmas.Bool.{and_parts, and_from, cond_both, eqb-true, leb-true, ltb-true, le-leb}
-use Rattle.std.proofs.lemmas.Bool.Decides.{nat_tests}
 use Rattle.snapshot.specs.Intervals.{from_to, meets_reading, joined_or_refused}
 use Rattle.snapshot.specs.Limits.{open_end, is_key, is_leg, is_place, is_worker}
 use Rattle.snapshot.specs.Limits as limit
 use Rattle.snapshot.specs.declared.account.Reading.{Reading}
 use Rattle.snapshot.specs.declared.account.Write.{Write}
-use Rattle.snapshot.specs.declared.fault.EngineFault.{EngineFault}
 use Rattle.snapshot.specs.declared.interval.Interval.{Interval}
-use Rattle.store.specs.Meaning.{Meaning, version_answer, after_prune, written_to}
-use Rattle.store.proofs.Standing.{Stands, prune_stands}
-use Rattle.lives.specs.Caches.{Cache, entry_of, widened}
-use Rattle.lives.specs.Engines.{OpenLeg, LegState, unused, running, ended, on_worker, holding, within, Chain, with_leg, end_leg, open_leg, add_reading, new_chain, Notices, Engine, with_place, with_cache, with_notices, with_store}
-use Rattle.lives.specs.Lives.{NewStore, ChainTold, ValueRead, nothing_told, leg_wrote, leg_read, history_with, store_with, told_with}
-use Rattle.lives.specs.RuleLaws.{AddedTo, WidenedBy, ToldTo, CacheLaws, WriteSetLaws, LimitLaws}
+use Rattle.store.specs.Meaning.{Meaning, after_prune, written_to}
+use Rattle.store.proofs.Standing.{prune_stands}
+use Rattle.lives.specs.Caches.{Cache, entry_of}
+use Rattle.lives.specs.Engines.{OpenLeg, running, on_worker, Chain, new_chain, Engine}
+use Rattle.lives.specs.Lives.{NewStore, ChainTold, nothing_told, history_with, store_with, told_with}
+use Rattle.lives.specs.RuleLaws.{AddedTo, WidenedBy, ToldTo, CacheLaws, WriteSetLaws}
 use Rattle.lives.specs.Rules.{Rules, CacheRules, WriteSetRules, ChainLimits, rules_with}
-use Rattle.lives.specs.Steps.{AnswerTo, Outcome, refused, accepted, answer_in, engine_in, step, own_reading, answered_by}
+use Rattle.lives.specs.Steps.{AnswerTo, Outcome, answer_in, engine_in, step, own_reading, answered_by}
 use Rattle.lives.specs.Updates.{with_at}
 use Rattle.lives.specs.declared.calls.Call.{Call}
 use Rattle.lives.specs.declared.calls.Call.TheVariants as call
@@ -32,8 +29,7 @@ use Rattle.lives.proofs.Legs.{NoWider, leg_sound, on_worker_lem, also_open, hand
 use Rattle.lives.proofs.NoticeProofs.{at_position, all_removed}
 use Rattle.lives.proofs.Outcomes.{at_check, at_chain, at_open, at_open_leg, at_free, at_result, at_else}
 use Rattle.lives.proofs.Readings.{History, TrueReading, AllTrue, AnsweredAt, widened_true, store_true}
-use Rattle.lives.proofs.Sound.{LegSound, LegsSound, ChainSound, Shown, Sound}
-use Rattle.lives.proofs.Updates.{at_each, at_each_two}
+use Rattle.lives.proofs.Sound.{LegSound, Sound}
 
 module _ (caches : CacheRules) (write_sets : WriteSetRules) (limits : ChainLimits) where
   -- the engine is sound after what comes of a call

@@ -1,6 +1,6 @@
 -- A commit keeps the invariant of a life, and its account is confirmed: what the law says of it, but for the times of the
 -- reads, each of which is backed by a true reading that covers the account's interval.
-use Rattle.std.proofs.Common.{◌≡◌, ℕ, zero, suc, ◌<◌, ◌≤◌, min, max, Bool, true, not, ◌&&◌, ◌||◌, eqb, ltb, leb, List, [], ◌∷◌, ◌++◌, map, length, IfSome, Some, None, Ok, Err, fold, Option, Result, sym, refl, ap, ◌∙◌, subst, ⊎_elim, arith}
+use Rattle.std.proofs.Common.{◌≡◌, ℕ, zero, suc, ◌<◌, ◌≤◌, min, max, Bool, true, not, ◌||◌, eqb, ltb, List, [], ◌∷◌, ◌++◌, map, length, IfSome, Some, None, Ok, Err, fold, Option, Result, sym, refl, ap, ◌∙◌, subst, ⊎_elim, arith}
 use mathlib.Core.Path.{fun_ext}
 use Rattle.std.specs.List.{AllByRecursion}
 use Rattle.std.proofs.ByRecursion.{all-has, All-map, All-weaker}
@@ -11,7 +11,6 @@ use Rattle.snapshot.specs.Accounts.{Account, all, sound_reading, greatest_timest
 use Rattle.snapshot.specs.Limits.{open_end, is_key, is_timestamp}
 use Rattle.snapshot.specs.Limits as limit
 use Rattle.snapshot.specs.declared.account.ChainReading.{ChainReading}
-use Rattle.snapshot.specs.declared.account.Reading.{Reading}
 use Rattle.snapshot.specs.declared.account.Write.{Write}
 use Rattle.snapshot.specs.declared.fault.Fault.{Fault}
 use Rattle.snapshot.specs.declared.interval.Interval.{Interval}
@@ -19,7 +18,7 @@ use Rattle.store.specs.Laws.{versions_of}
 use Rattle.store.specs.Meaning.{Meaning, commit_answer, if_room, timestamp_for, with_writes, written_to}
 use Rattle.store.proofs.Standing.{accepted as commit-accepted, commit_stands}
 use Rattle.store.proofs.Versions.{before_from_up_to}
-use Rattle.lives.specs.Engines.{OpenLeg, LegState, unused, running, ended, is_running, Chain, Engine, with_place}
+use Rattle.lives.specs.Engines.{OpenLeg, LegState, running, is_running, Chain, Engine, with_place}
 use Rattle.lives.specs.Lives.{NewStore, ChainTold, ValueRead}
 use Rattle.lives.specs.Notices.{notice_of}
 use Rattle.lives.specs.RuleLaws.{LimitLaws}
@@ -32,7 +31,7 @@ use Rattle.lives.proofs.Changes.{chain_at, free_sound}
 use Rattle.lives.proofs.Legs.{open_below, leg_sound, chain_on}
 use Rattle.lives.proofs.NoticeProofs.{raised_wait, written_each}
 use Rattle.lives.proofs.Outcomes.{at_check, at_open_leg, at_result}
-use Rattle.lives.proofs.Readings.{History, TrueReading, AllTrue, GoesOn, same_goes_on, true_on, commit_goes_on, commit_true}
+use Rattle.lives.proofs.Readings.{History, TrueReading, GoesOn, same_goes_on, true_on, commit_goes_on, commit_true}
 use Rattle.lives.proofs.Sound.{LegSound, Covers, ReadingSound, Shown, ChainSound, Sound, Backed, Confirmed}
 use Rattle.lives.proofs.Updates.{at_each}
 

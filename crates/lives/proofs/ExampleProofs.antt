@@ -1,13 +1,18 @@
 -- The examples hold: the lives are computed, and the law is applied to them.
-use Rattle.std.proofs.Common.{◌≡◌, ℕ, ◌≤◌, List, [], ◌∷◌, ◌++◌, refl, arith}
+use Rattle.std.proofs.Common.{◌≡◌, ℕ, ◌≤◌, List, [], ◌∷◌, ◌++◌, map, Ok, Err, sym, refl, subst, arith}
 use Rattle.std.specs.List.{ContainsAt as Has, AllByRecursion}
 use Rattle.std.proofs.ByRecursion.{all-has}
 use Rattle.snapshot.specs.Accounts.{Account}
-use Rattle.store.specs.Laws.{HoldsAt}
 use Rattle.store.specs.Meaning.{version_of, versions_below}
 use Rattle.store.specs.declared.version.Version.{Version}
-use Rattle.lives.specs.Examples.{BreakIn, WrongRules, table, break_in, break_in_account, pruned, written_behind, read_from_cache}
-use Rattle.lives.specs.Law.{ValueAt}
+use Rattle.lives.specs.Examples.{BreakIn, WrongRules, table, break_in, break_in_account, read_then_pruned, pruned, written_behind, read_from_cache}
+use Rattle.lives.specs.Law.{ValueAt, AccountLaw, GoneLaw, LawOfLives, leg_at}
+use Rattle.lives.specs.Lives.{Event, event, Life, AtEach, NewStore, ValueRead, engine_after, life_of, history_of, store_after, told_of}
+use Rattle.lives.specs.Rules.{Rules, the_rules}
+use Rattle.store.specs.Meaning.{question_fault}
+use Rattle.snapshot.specs.Refusals.{around_store}
+use Rattle.snapshot.specs.declared.fault.EngineFault.{EngineFault}
+use Rattle.snapshot.specs.declared.fault.Refusal.TheVariants.{VersionGone}
 use Rattle.lives.specs.Steps.{check, with_chain, with_open, with_open_leg, if_free, with_result, or_else}
 use Rattle.lives.specs.declared.calls.Call.TheVariants as call
 use Rattle.lives.proofs.LifeProofs.{the_rules_lawful}
@@ -25,21 +30,95 @@ not_five_at_thirty (v, held, five) =
     let none : AllByRecursion (λ w. 30 ≤ w.timestamp → w.value ≡ 5 → ⊥) zones = (λ late _. absurd (omega arith), (λ late _. absurd (omega arith), (λ _ five. absurd (omega arith), tt))) in
     all-has (λ w. 30 ≤ w.timestamp → w.value ≡ 5 → ⊥) zones v none held.there (held.newest_one.1.1.0 (omega arith)) five
 
-pub break_in_lem : BreakIn
+abbrev value_read : ℕ → ℕ → ValueRead
+value_read k x = record { key = k; value = x }
+
+-- What the law says of a commit and of a read that was refused as gone, where a life ends with it.
+
+commit_last :
+    (rules : Rules) (store : NewStore) (life before : Life) → LawOfLives rules store life →
+    (p l clock r w : ℕ) (a : Account) → life ≡ event (call.Commit p l clock r w) (Ok a) ∷ before →
+    AccountLaw (history_of life) before p l a
+commit_last rules store life before law p l clock r w a e =
+    let R : Event → Life → Type 0 = λ it past. (p l clock r w : ℕ) (a : Account) → it ≡ event (call.Commit p l clock r w) (Ok a) → AccountLaw (history_of life) past p l a in
+    (subst (AtEach R) e law.commits).0 p l clock r w a refl
+
+gone_last :
+    (rules : Rules) (store : NewStore) (life before : Life) → LawOfLives rules store life →
+    (p l k : ℕ) (f : EngineFault) → f.fault.refusal ≡ VersionGone → life ≡ event (call.Read p l k) (Err f) ∷ before →
+    GoneLaw (history_of before) (store_after store before).kept (leg_at (engine_after rules store before) p l) k
+gone_last rules store life before law p l k f gone e =
+    let R : Event → Life → Type 0 = λ it past. (p l k : ℕ) (f : EngineFault) → it ≡ event (call.Read p l k) (Err f) → f.fault.refusal ≡ VersionGone → GoneLaw (history_of past) (store_after store past).kept (leg_at (engine_after rules store past) p l) k in
+    (subst (AtEach R) e law.reads).0 p l k f refl gone
+
+-- The break-in.
+
+-- the life before the commit, and the commit
+committed_life :
+    life_of the_rules table break_in
+    ≡ event (call.Commit 0 3 40 32 8) (Ok break_in_account) ∷ life_of the_rules table read_then_pruned
 unfolding check with_chain with_open with_open_leg if_free with_result or_else versions_below
+committed_life = refl
+
+break_in_law : AccountLaw (history_of (life_of the_rules table break_in)) (life_of the_rules table read_then_pruned) 0 3 break_in_account
+break_in_law = commit_last the_rules table _ _ (the_rules_lawful.by_calls table break_in) 0 3 40 32 8 break_in_account committed_life
+
+still_waiting : map (λ n. n.reading.timestamp) (engine_after the_rules table (life_of the_rules table break_in)).notices.waiting ≡ 30 ∷ []
+unfolding check with_chain with_open with_open_leg if_free with_result or_else versions_below
+still_waiting = refl
+
+kept_zone : (store_after table (life_of the_rules table break_in)).kept 7 ≡ version_of 30 6 ∷ []
+unfolding check with_chain with_open with_open_leg if_free with_result or_else versions_below
+kept_zone = refl
+
+refused_life :
+    life_of the_rules table (pruned ++ (call.Read 0 3 7 ∷ []))
+    ≡ event (call.Read 0 3 7) (Err (around_store (question_fault VersionGone 7) 0 3 7)) ∷ life_of the_rules table pruned
+unfolding check with_chain with_open with_open_leg if_free with_result or_else versions_below
+refused_life = refl
+
+gone_law :
+    GoneLaw (history_of (life_of the_rules table pruned)) (store_after table (life_of the_rules table pruned)).kept
+    (leg_at (engine_after the_rules table (life_of the_rules table pruned)) 0 3) 7
+gone_law = gone_last the_rules table _ _ (the_rules_lawful.by_calls table (pruned ++ (call.Read 0 3 7 ∷ []))) 0 3 7 (around_store (question_fault VersionGone 7) 0 3 7) refl refused_life
+
+-- what the chain read outside its own writes, the latest first
+outside_reads : (told_of (life_of the_rules table read_then_pruned) 0).outside ≡ value_read 7 5 ∷ value_read 9 3 ∷ value_read 7 5 ∷ []
+unfolding check with_chain with_open with_open_leg if_free with_result or_else versions_below
+outside_reads = refl
+
+at_twenty : AllByRecursion (λ r. ValueAt 20 r.value (history_of (life_of the_rules table break_in) r.key)) (value_read 7 5 ∷ value_read 9 3 ∷ value_read 7 5 ∷ [])
+at_twenty =
+    let Held : List ValueRead → Type 0 = λ rs. AllByRecursion (λ r. ValueAt 20 r.value (history_of (life_of the_rules table break_in) r.key)) rs in
+    subst Held outside_reads (break_in_law.agrees 20 (omega arith, omega arith))
+
+zone_history : history_of (life_of the_rules table break_in) 7 ≡ zones
+unfolding check with_chain with_open with_open_leg if_free with_result or_else versions_below
+zone_history = refl
+
+zone_since_thirty : ValueAt 30 6 (history_of (life_of the_rules table break_in) 7)
+zone_since_thirty =
+    let Since : List Version → Type 0 = λ vs. ValueAt 30 6 vs in
+    subst Since (sym zone_history) six_at_thirty
+
+not_among : (vs : List Version) → vs ≡ version_of 30 6 ∷ [] → Has vs (version_of 10 5) → ⊥
+not_among vs e has =
+    let Kept : List Version → Type 0 = λ ws. Has ws (version_of 10 5) in
+    let same : 10 ≡ 30 = all-has (λ v. v.timestamp ≡ 30) (version_of 30 6 ∷ []) (version_of 10 5) (refl, tt) (subst Kept e has) in
+    omega (arith, same)
+
+pub break_in_lem : BreakIn
 break_in_lem =
-    let law = (the_rules_lawful.by_calls table break_in).commits.0 0 3 40 32 8 break_in_account refl in
-    let at_twenty = law.agrees 20 (omega arith, omega arith) in
     record {
-      committed = refl;
-      law = law;
+      committed = committed_life;
+      law = break_in_law;
       zone = at_twenty.0;
       set_record = at_twenty.1.0;
-      zone_since = six_at_thirty;
-      late = refl;
-      dropped = λ has. let same : 10 ≡ 30 = all-has (λ v. v.timestamp ≡ 30) (version_of 30 6 ∷ []) (version_of 10 5) (refl, tt) has in omega arith;
-      refused = refl;
-      gone = (the_rules_lawful.by_calls table (pruned ++ (call.Read 0 3 7 ∷ []))).reads.0 0 3 7 _ refl refl;
+      zone_since = zone_since_thirty;
+      late = still_waiting;
+      dropped = not_among _ kept_zone;
+      refused = refused_life;
+      gone = gone_law;
     }
 
 pub wrong_rules : WrongRules

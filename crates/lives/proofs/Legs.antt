@@ -1,6 +1,6 @@
 -- What a call does to the chain that it names keeps the chain sound.
-use Rattle.std.proofs.Common.{◌≡◌, ℕ, zero, suc, ◌<◌, ◌≤◌, min, max, true, ◌⊎◌, List, [], ◌∷◌, ◌++◌, map, length, Some, None, Option, sym, refl, ap, ◌∙◌, subst, inl, inr, ⊎_elim, arith}
-use Rattle.std.specs.List.{ContainsAt as Has, AllByRecursion}
+use Rattle.std.proofs.Common.{◌≡◌, ℕ, ◌<◌, ◌≤◌, min, max, true, ◌⊎◌, List, [], ◌∷◌, ◌++◌, map, length, Some, None, Option, refl, ap, ◌∙◌, subst, inl, inr, ⊎_elim, arith}
+use Rattle.std.specs.List.{AllByRecursion}
 use Rattle.std.proofs.ByRecursion.{All-push, All-weaker, has_append_left, has_push}
 use Rattle.std.proofs.lemmas.List.{length_push, map_push}
 use Rattle.std.proofs.lemmas.List.Sums.{fold_push}
@@ -15,7 +15,6 @@ use Rattle.snapshot.specs.Limits as limit
 use Rattle.lives.specs.Engines.{OpenLeg, LegState, unused, running, ended, on_worker, holding, within, Chain, with_leg, end_leg, open_leg, add_reading, no_legs, new_chain}
 use Rattle.lives.specs.Lives.{ChainTold, ValueRead, nothing_told, leg_wrote, outside_with, leg_read}
 use Rattle.lives.specs.Rules.{ChainLimits}
-use Rattle.lives.specs.Updates.{with_at}
 use Rattle.lives.specs.declared.records.LegReading.{LegReading}
 use Rattle.lives.proofs.Readings.{History, TrueReading, GoesOn, true_on}
 use Rattle.lives.proofs.Sound.{LegSound, LegsSound, IfRunning, Covers, ReadingSound, Shown, ChainSound}

@@ -6,11 +6,11 @@ use Rattle.snapshot.specs.Accounts.{Account}
 use Rattle.snapshot.specs.declared.fault.EngineFault.{EngineFault}
 use Rattle.snapshot.specs.declared.fault.Refusal.TheVariants.{VersionGone}
 use Rattle.store.specs.Laws.{version_in}
-use Rattle.store.specs.Meaning.{Meaning, new_store}
+use Rattle.store.specs.Meaning.{Meaning}
 use Rattle.store.proofs.Standing.{new_stands}
-use Rattle.lives.specs.Engines.{OpenLeg, LegState, running, Chain, Engine}
+use Rattle.lives.specs.Engines.{OpenLeg, running, Chain, Engine}
 use Rattle.lives.specs.Law.{ValueAt, AccountLaw, GoneLaw, leg_in, leg_at, LawOfLives, LedTo, Lawful, RestsOnLaws}
-use Rattle.lives.specs.Lives.{Event, event, Life, AtEach, NewStore, AsDrawn, new_over, engine_after, life_from, life_of, history_by, history_with, history_of, store_by, store_with, store_after, ChainTold, ValueRead, told_with, told_of}
+use Rattle.lives.specs.Lives.{Event, event, Life, AtEach, NewStore, AsDrawn, engine_after, life_from, life_of, history_by, history_with, history_of, store_by, store_with, store_after, ChainTold, told_with, told_of}
 use Rattle.lives.specs.RuleLaws.{CacheLaws, WriteSetLaws, LimitLaws}
 use Rattle.lives.specs.Rules.{Rules, CacheRules, WriteSetRules, ChainLimits, rules_with, the_rules}
 use Rattle.lives.specs.Steps.{AnswerTo, Outcome, refused, accepted, answer_in, engine_in, step}
@@ -18,11 +18,11 @@ use Rattle.lives.specs.declared.calls.Call.{Call}
 use Rattle.lives.specs.declared.calls.Call.TheVariants as call
 use Rattle.lives.proofs.CacheProofs.{the_caches_lawful}
 use Rattle.lives.proofs.CallProofs.{After, begin_keeps, hand_keeps, fork_keeps, join_keeps, read_keeps, write_keeps, abandon_keeps, deliver_keeps, discard_keeps, prune_keeps}
-use Rattle.lives.proofs.CommitProofs.{IfAccepted, AccountStands, Committed, commit_keeps}
+use Rattle.lives.proofs.CommitProofs.{IfAccepted, AccountStands, commit_keeps}
 use Rattle.lives.proofs.GoneProofs.{read_gone}
 use Rattle.lives.proofs.Legs.{leg_sound}
-use Rattle.lives.proofs.Readings.{History, TrueReading, GoesOn, same_goes_on, true_on}
-use Rattle.lives.proofs.Sound.{LegSound, IfRunning, ChainSound, Sound, Backed, Confirmed, LifeSound}
+use Rattle.lives.proofs.Readings.{History, GoesOn, same_goes_on, true_on}
+use Rattle.lives.proofs.Sound.{ChainSound, Sound, Backed, Confirmed, LifeSound}
 use Rattle.lives.proofs.WriteSetProofs.{the_write_sets_lawful, the_limits_lawful}
 
 -- What is so of each event.

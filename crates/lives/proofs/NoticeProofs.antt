@@ -1,5 +1,5 @@
 -- What holds of the waiting notices and of those that a commit may raise, holds of those that wait after it.
-use Rattle.std.proofs.Common.{◌≡◌, ℕ, zero, suc, ◌≤◌, Bool, true, eqb, ltb, List, [], ◌∷◌, ◌++◌, length, take, drop, Some, Option, refl, ◌∙◌, arith}
+use Rattle.std.proofs.Common.{◌≡◌, ℕ, zero, suc, ◌≤◌, Bool, true, eqb, ltb, List, [], ◌∷◌, length, take, drop, Some, Option, refl, ◌∙◌, arith}
 use Rattle.std.specs.List.{slice_get, remove, AllByRecursion}
 use Rattle.std.proofs.ByRecursion.{All-append, All-drop, All-push, All-take}
 use Rattle.std.proofs.lemmas.Bool.{cond_both, cond-true, cond-false, eq-eqb, ne_eqb}

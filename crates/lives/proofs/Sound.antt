@@ -1,5 +1,5 @@
 -- The invariant of a life: what is so of every engine, against what its life tells.
-use Rattle.std.proofs.Common.{◌≡◌, ℕ, ◌<◌, ◌≤◌, true, List, [], map, length, IfSome, Ok, Err, Option}
+use Rattle.std.proofs.Common.{◌≡◌, ℕ, ◌<◌, ◌≤◌, true, List, map, length, IfSome, Ok, Err, Option}
 use Rattle.std.specs.List.{ContainsAt as Has, AllByRecursion}
 use Rattle.snapshot.specs.Accounts.{Account, greatest_timestamp, least_promise, rising_from, lawful}
 use Rattle.snapshot.specs.Limits.{open_end, is_key, is_worker}

@@ -1,5 +1,5 @@
 -- A function with another value at one place: there it has that value, elsewhere what it had.
-use Rattle.std.proofs.Common.{◌≡◌, ℕ, true, eqb, sym, refl, ◌∙◌, subst, ⊎_elim}
+use Rattle.std.proofs.Common.{◌≡◌, ℕ, eqb, sym, refl, subst, ⊎_elim}
 use Rattle.std.proofs.lemmas.Bool.{cond-true, cond-false, cond_both, eq-eqb, ne_eqb, eqb-true, cases_Bool}
 use Rattle.lives.specs.Updates.{with_at}
 

@@ -1,10 +1,10 @@
 -- The state of an engine: open chains with their legs, caches, notices, and the meaning of the store below.
-use Rattle.std.specs.Prelude.{ℕ, suc, Bool, true, false, List, [], ◌∷◌, ◌++◌, Some, None, Option}
+use Rattle.std.specs.Prelude.{ℕ, suc, Bool, true, false, List, [], ◌∷◌, ◌++◌, None, Option}
 use Rattle.snapshot.specs.Intervals.{from_to}
 use Rattle.snapshot.specs.Limits.{open_end}
 use Rattle.snapshot.specs.declared.account.Write.{Write}
 use Rattle.snapshot.specs.declared.interval.Interval.{Interval}
-use Rattle.store.specs.Meaning.{Meaning, new_store}
+use Rattle.store.specs.Meaning.{Meaning}
 use Rattle.lives.specs.Caches.{Cache}
 use Rattle.lives.specs.Updates.{with_at}
 use Rattle.lives.specs.declared.records.LegReading.{LegReading}

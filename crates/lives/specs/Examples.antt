@@ -1,21 +1,20 @@
 -- Lives that show what the law says, and that it says something.
-use Rattle.std.specs.Prelude.{◌≡◌, ℕ, ◌+◌, ◌≤◌, max, cond, List, [], ◌∷◌, ◌++◌, map, Some, Ok, Err, Result, nat_lt}
+use Rattle.std.specs.Prelude.{◌≡◌, ℕ, ◌+◌, max, cond, List, [], ◌∷◌, ◌++◌, map, Ok, Err, Result, nat_lt}
 use Rattle.std.proofs.Common.{lit≤}
 use Rattle.std.specs.List.{ContainsAt as Has}
 use Rattle.snapshot.specs.Accounts.{Account}
 use Rattle.snapshot.specs.Intervals.{from_to, narrowed}
-use Rattle.snapshot.specs.Limits.{open_end, keys}
+use Rattle.snapshot.specs.Limits.{open_end}
 use Rattle.snapshot.specs.Refusals.{around_store}
 use Rattle.snapshot.specs.declared.account.ChainReading.{ChainReading}
 use Rattle.snapshot.specs.declared.account.Reading.{Reading}
 use Rattle.snapshot.specs.declared.account.Write.{Write}
-use Rattle.snapshot.specs.declared.fault.EngineFault.{EngineFault}
 use Rattle.snapshot.specs.declared.fault.Fault.{Fault}
 use Rattle.snapshot.specs.declared.fault.Refusal.TheVariants.{VersionGone}
 use Rattle.snapshot.specs.declared.interval.Interval.{Interval}
-use Rattle.store.specs.Meaning.{Depth, Meaning, version_of, version_answer, question_fault}
+use Rattle.store.specs.Meaning.{Meaning, version_of, version_answer, question_fault}
 use Rattle.lives.specs.Law.{ValueAt, AccountLaw, GoneLaw, leg_at, Lawful}
-use Rattle.lives.specs.Lives.{Event, event, Life, NewStore, engine_after, life_of, history_of, store_after}
+use Rattle.lives.specs.Lives.{event, NewStore, engine_after, life_of, history_of, store_after}
 use Rattle.lives.specs.Rules.{Rules, the_caches, the_write_sets, the_limits, the_rules}
 use Rattle.lives.specs.declared.calls.Call.{Call}
 use Rattle.lives.specs.declared.calls.Call.TheVariants as call

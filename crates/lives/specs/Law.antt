@@ -10,7 +10,7 @@ use Rattle.store.specs.Laws.{HoldsAt}
 use Rattle.store.specs.Meaning.{written_to}
 use Rattle.store.specs.declared.version.Version.{Version}
 use Rattle.lives.specs.Engines.{OpenLeg, LegState, unused, running, Chain, Engine}
-use Rattle.lives.specs.Lives.{Event, event, Life, AtEach, NewStore, AsDrawn, engine_after, life_of, history_of, store_after, told_of}
+use Rattle.lives.specs.Lives.{event, Life, AtEach, NewStore, AsDrawn, engine_after, life_of, history_of, store_after, told_of}
 use Rattle.lives.specs.RuleLaws.{CacheLaws, WriteSetLaws, LimitLaws}
 use Rattle.lives.specs.Rules.{Rules, CacheRules, WriteSetRules, ChainLimits, rules_with}
 use Rattle.lives.specs.Steps.{answer_in, step}

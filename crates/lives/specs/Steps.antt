@@ -1,6 +1,6 @@
 -- One step of an engine: from its state and a call to the answer and the state after it. Each call's checks stand in the
 -- order of the refusals' numbers, and a refused call leaves the state as it is.
-use Rattle.std.specs.Prelude.{ℕ, zero, suc, ◌+◌, Bool, true, false, cond, not, ◌&&◌, ◌||◌, List, [], ◌∷◌, map, length, Some, None, Ok, Err, Option, Result, ◌==◌, nat_le, nat_lt}
+use Rattle.std.specs.Prelude.{ℕ, zero, suc, Bool, true, cond, not, ◌&&◌, ◌||◌, List, [], ◌∷◌, map, length, Some, None, Ok, Err, Option, Result, ◌==◌, nat_le, nat_lt}
 use Rattle.std.specs.List.{slice_get, remove}
 use Rattle.snapshot.specs.Accounts.{Account}
 use Rattle.snapshot.specs.Intervals.{joined_or_refused}
@@ -20,7 +20,6 @@ use Rattle.lives.specs.Notices.{raise_all}
 use Rattle.lives.specs.Rules.{Rules}
 use Rattle.lives.specs.declared.calls.Call.{Call}
 use Rattle.lives.specs.declared.calls.Call.TheVariants as call
-use Rattle.lives.specs.declared.records.CacheEntry.{CacheEntry}
 use Rattle.lives.specs.declared.records.LegReading.{LegReading}
 use Rattle.lives.specs.declared.records.Notice.{Notice}
 
