@@ -827,7 +827,7 @@ fn memory_of_64_to_1_024_records_is_fit(rt: HostRuntime) {
 fn is_unfit(rt: &impl Abort, heap: Global, name: &str, memory: &mut [Record]) -> Result<(), Fail> {
     let before = memory.to_vec(heap)?;
     let Err(fault) = Table::check(memory) else {
-        return Err(Fail::new("taken as fit"));
+        return Err(Fail::new(format_args!("{name}: taken as fit")));
     };
     assert_eq!(rt; seen_fault(rt, fault)?, Seen::Refused(17, 255), "{name}");
     let mut table = Table::new(memory);

@@ -232,7 +232,7 @@ of_key_prune h rs keyed k =
     ap (drop (per_key f k)) none ∙ drop_all (per_key f k) [] (omega arith) ∙ sym (drop_all (f k) [] (omega arith)) ∙ ap (drop (f k)) (sym none))
     (cases_Bool (is_key k))
 
--- AllByRecursion keys together.
+-- All keys together.
 
 -- a record adds one to the versions of the keys below n, if its key is one of them
 one_more_below : (n : ℕ) (r : Record) (rs : List Record) → versions_below n (λ k. of_key k (r ∷ rs)) ≡ versions_below n (λ k. of_key k rs) + cond (ltb r.key n) 1 0
