@@ -3,16 +3,15 @@ use Rattle.std.proofs.Common.{◌≡◌, ℕ, ◌≤◌, List, [], ◌∷◌, �
 use Rattle.std.specs.List.{ContainsAt as Has, AllByRecursion}
 use Rattle.std.proofs.ByRecursion.{all-has}
 use Rattle.snapshot.specs.Accounts.{Account}
-use Rattle.store.specs.Meaning.{version_of, versions_below}
+use Rattle.snapshot.specs.Refusals.{around_store}
+use Rattle.snapshot.specs.declared.fault.EngineFault.{EngineFault}
+use Rattle.snapshot.specs.declared.fault.Refusal.TheVariants.{VersionGone}
+use Rattle.store.specs.Meaning.{version_of, versions_below, question_fault}
 use Rattle.store.specs.declared.version.Version.{Version}
 use Rattle.lives.specs.Examples.{BreakIn, WrongRules, table, break_in, break_in_account, read_then_pruned, pruned, written_behind, read_from_cache}
 use Rattle.lives.specs.Law.{ValueAt, AccountLaw, GoneLaw, LawOfLives, leg_at}
 use Rattle.lives.specs.Lives.{Event, event, Life, AtEach, NewStore, ValueRead, engine_after, life_of, history_of, store_after, told_of}
 use Rattle.lives.specs.Rules.{Rules, the_rules}
-use Rattle.store.specs.Meaning.{question_fault}
-use Rattle.snapshot.specs.Refusals.{around_store}
-use Rattle.snapshot.specs.declared.fault.EngineFault.{EngineFault}
-use Rattle.snapshot.specs.declared.fault.Refusal.TheVariants.{VersionGone}
 use Rattle.lives.specs.Steps.{check, with_chain, with_open, with_open_leg, if_free, with_result, or_else}
 use Rattle.lives.specs.declared.calls.Call.TheVariants as call
 use Rattle.lives.proofs.LifeProofs.{the_rules_lawful}
@@ -21,6 +20,7 @@ use Rattle.lives.proofs.LifeProofs.{the_rules_lawful}
 abbrev zones : List Version
 zones = version_of 0 0 ∷ version_of 10 5 ∷ version_of 30 6 ∷ []
 
+-- at time 30 it is 6, and not 5
 six_at_thirty : ValueAt 30 6 zones
 six_at_thirty =
     (version_of 30 6, record { there = (2, omega arith, λ _. refl); not_later = omega arith; newest_one = (λ _. omega arith, (λ _. omega arith, (λ _. omega arith, tt))) }, refl)
@@ -30,6 +30,7 @@ not_five_at_thirty (v, held, five) =
     let none : AllByRecursion (λ w. 30 ≤ w.timestamp → w.value ≡ 5 → ⊥) zones = (λ late _. absurd (omega arith), (λ late _. absurd (omega arith), (λ _ five. absurd (omega arith), tt))) in
     all-has (λ w. 30 ≤ w.timestamp → w.value ≡ 5 → ⊥) zones v none held.there (held.newest_one.1.1.0 (omega arith)) five
 
+-- a read of this key, which was answered with this value
 abbrev value_read : ℕ → ℕ → ValueRead
 value_read k x = record { key = k; value = x }
 
@@ -51,32 +52,37 @@ gone_last rules store life before law p l k f gone e =
     let R : Event → Life → Type 0 = λ it past. (p l k : ℕ) (f : EngineFault) → it ≡ event (call.Read p l k) (Err f) → f.fault.refusal ≡ VersionGone → GoneLaw (history_of past) (store_after store past).kept (leg_at (engine_after rules store past) p l) k in
     (subst (AtEach R) e law.reads).0 p l k f refl gone
 
--- The break-in.
+-- The break-in. Each life is computed in a lemma of its own.
 
--- the life before the commit, and the commit
+-- it ends with the commit, accepted with that account
 committed_life :
     life_of the_rules table break_in
     ≡ event (call.Commit 0 3 40 32 8) (Ok break_in_account) ∷ life_of the_rules table read_then_pruned
 unfolding check with_chain with_open with_open_leg if_free with_result or_else versions_below
 committed_life = refl
 
+-- what the law says of that commit
 break_in_law : AccountLaw (history_of (life_of the_rules table break_in)) (life_of the_rules table read_then_pruned) 0 3 break_in_account
 break_in_law = commit_last the_rules table _ _ (the_rules_lawful.by_calls table break_in) 0 3 40 32 8 break_in_account committed_life
 
+-- the notice of the zone since time 30 still waits
 still_waiting : map (λ n. n.reading.timestamp) (engine_after the_rules table (life_of the_rules table break_in)).notices.waiting ≡ 30 ∷ []
 unfolding check with_chain with_open with_open_leg if_free with_result or_else versions_below
 still_waiting = refl
 
+-- of the zone the store keeps the version since time 30 alone
 kept_zone : (store_after table (life_of the_rules table break_in)).kept 7 ≡ version_of 30 6 ∷ []
 unfolding check with_chain with_open with_open_leg if_free with_result or_else versions_below
 kept_zone = refl
 
+-- with the prune moved, the read is refused as gone
 refused_life :
     life_of the_rules table (pruned ++ (call.Read 0 3 7 ∷ []))
     ≡ event (call.Read 0 3 7) (Err (around_store (question_fault VersionGone 7) 0 3 7)) ∷ life_of the_rules table pruned
 unfolding check with_chain with_open with_open_leg if_free with_result or_else versions_below
 refused_life = refl
 
+-- what the law says of that read
 gone_law :
     GoneLaw (history_of (life_of the_rules table pruned)) (store_after table (life_of the_rules table pruned)).kept
     (leg_at (engine_after the_rules table (life_of the_rules table pruned)) 0 3) 7
@@ -87,20 +93,24 @@ outside_reads : (told_of (life_of the_rules table read_then_pruned) 0).outside �
 unfolding check with_chain with_open with_open_leg if_free with_result or_else versions_below
 outside_reads = refl
 
+-- at time 20 the history holds each of those values
 at_twenty : AllByRecursion (λ r. ValueAt 20 r.value (history_of (life_of the_rules table break_in) r.key)) (value_read 7 5 ∷ value_read 9 3 ∷ value_read 7 5 ∷ [])
 at_twenty =
     let Held : List ValueRead → Type 0 = λ rs. AllByRecursion (λ r. ValueAt 20 r.value (history_of (life_of the_rules table break_in) r.key)) rs in
     subst Held outside_reads (break_in_law.agrees 20 (omega arith, omega arith))
 
+-- the zone's history
 zone_history : history_of (life_of the_rules table break_in) 7 ≡ zones
 unfolding check with_chain with_open with_open_leg if_free with_result or_else versions_below
 zone_history = refl
 
+-- the zone is 6 at time 30
 zone_since_thirty : ValueAt 30 6 (history_of (life_of the_rules table break_in) 7)
 zone_since_thirty =
     let Since : List Version → Type 0 = λ vs. ValueAt 30 6 vs in
     subst Since (sym zone_history) six_at_thirty
 
+-- where that version alone is kept, the one that was read is not
 not_among : (vs : List Version) → vs ≡ version_of 30 6 ∷ [] → Has vs (version_of 10 5) → ⊥
 not_among vs e has =
     let Kept : List Version → Type 0 = λ ws. Has ws (version_of 10 5) in
