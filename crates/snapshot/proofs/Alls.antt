@@ -1,6 +1,9 @@
 -- A test of every element, walked from the front: what is left decides the whole.
-use Rattle.std.proofs.Common.{◌≡◌, ℕ, ◌+◌, ◌<◌, ◌≤◌, Bool, true, false, ◌&&◌, List, length, get_or, drop, sym, ap, ◌∙◌}
+use Rattle.std.proofs.Common.{◌≡◌, ℕ, ◌+◌, ◌<◌, ◌≤◌, Bool, true, false, ◌&&◌, List, [], ◌∷◌, MatchBool, length, get_or, drop, sym, ap, ◌∙◌, arith}
 use Rattle.std.proofs.lemmas.List.{at_drop_more, at_drop_all}
+use Rattle.std.specs.List.{HoldsAt}
+use Rattle.std.proofs.lemmas.List.Sums.{list_all-from_AllPass}
+use Rattle.std.proofs.lemmas.List.Folds.{list_all_at}
 use Rattle.std.proofs.lemmas.Bool.{and_left}
 use Rattle.snapshot.specs.Accounts.{all}
 
@@ -18,3 +21,9 @@ module _ {X : Type 0} (test : X → Bool) (xs : List X) where
 
   pub all_ends : (i : ℕ) → length xs ≤ i → Left i → true ≡ all test xs
   all_ends i past left = sym (at_drop_all (all test) xs i past) ∙ left
+
+-- a look at each element decides: all pass, or one does not
+pub all_by_each : {X : Type 0} (test : X → Bool) (xs : List X) (r : Bool) → MatchBool r ((k : ℕ) (d : X) → k < length xs → test (get_or xs k d) ≡ true) ((k : ℕ) × (k < length xs) × HoldsAt (λ x. test x ≡ false) xs k) → r ≡ all test xs
+all_by_each test xs true each = sym (list_all-from_AllPass test xs each)
+all_by_each test [] false (k, lt, fails) = absurd (omega (arith, lt))
+all_by_each test (x ∷ xs) false (k, lt, fails) = sym (list_all_at test (x ∷ xs) k x lt (fails x))

@@ -1,3 +1,4 @@
+pub mod Numbers
 pub mod Firsts
 pub mod Alls
 pub mod Risings

@@ -1,23 +1,43 @@
--- Strictly rising keys, walked from the front.
-use Rattle.std.proofs.Common.{◌≡◌, ℕ, suc, ◌+◌, ◌<◌, Bool, true, false, ◌&&◌, leb, List, length, get_or, drop, sym, ap, ◌∙◌, add-one}
-use Rattle.std.proofs.lemmas.List.{at_drop_more}
-use Rattle.snapshot.specs.Accounts.{rising_from, zero_write}
+-- Keys that are in range and rise from each to the next.
+use Rattle.std.proofs.Common.{◌≡◌, ℕ, zero, suc, ◌<◌, ◌≤◌, Bool, true, false, ◌&&◌, nat_le, nat_lt, List, [], ◌∷◌, length, slice_index_or, refl, sym, ap, subst, ◌∙◌, add-one, arith}
+use Rattle.std.specs.List.{IsAllAdjacentAnswer}
+use Rattle.std.proofs.lemmas.Bool.{ltb-true, le-leb, and_left, and_right}
+use Rattle.snapshot.specs.Accounts.{all, rising_from}
 use Rattle.snapshot.specs.Limits.{is_key}
 use Rattle.snapshot.specs.declared.account.Write.{Write}
 
--- the write's key is in range, and this one or above
-abbrev pub from : ℕ → Write → Bool
-from least w = leb least w.key && is_key w.key
+abbrev pub has_fit_key : Write → Bool
+has_fit_key w = is_key w.key
 
-module _ (least : ℕ) (ws : List Write) (i : ℕ) (lt : i < length ws) where
-  -- what is left after i writes rises if the next one is in its place and the others go on from it
-  next : rising_from least (drop i ws) ≡ (from least (get_or ws i zero_write) && rising_from (suc (get_or ws i zero_write).key) (drop (i + 1) ws))
-  next = at_drop_more (rising_from least) ws i zero_write lt
+abbrev pub is_below : Write → Write → Bool
+is_below v w = nat_lt v.key w.key
 
-  pub rising_fails : from least (get_or ws i zero_write) ≡ false → false ≡ rising_from least (drop i ws)
-  rising_fails e = sym (next ∙ ap (λ b. b && rising_from (suc (get_or ws i zero_write).key) (drop (i + 1) ws)) e)
+-- where each key is below the next, and the first one is k or above, they rise from k if they are in range
+rising_where_sorted : (k : ℕ) (ws : List Write) → ((i : ℕ) (d : Write) → suc i < length ws → is_below (slice_index_or ws i d) (slice_index_or ws (suc i) d) ≡ true) → ((d : Write) → 0 < length ws → k ≤ (slice_index_or ws 0 d).key) → rising_from k ws ≡ all has_fit_key ws
+rising_where_sorted k [] sorted first = refl
+rising_where_sorted k (w ∷ ws) sorted first =
+    let rest : rising_from (suc w.key) ws ≡ all has_fit_key ws =
+    rising_where_sorted (suc w.key) ws (λ i d lt. sorted (suc i) d (omega (arith, lt)))
+    (λ d lt. ltb-true w.key (slice_index_or ws 0 d).key (sorted 0 d (omega (arith, lt)))) in
+    ap (λ b. b && is_key w.key && rising_from (suc w.key) ws) (le-leb k w.key (first w (omega arith))) ∙ ap (λ b. is_key w.key && b) rest
 
-  pub rising_passes : from least (get_or ws i zero_write) ≡ true → rising_from ((get_or ws i zero_write).key + 1) (drop (i + 1) ws) ≡ rising_from least (drop i ws)
-  rising_passes e =
-      ap (λ k. rising_from k (drop (i + 1) ws)) (add-one (get_or ws i zero_write).key)
-      ∙ sym (next ∙ ap (λ b. b && rising_from (suc (get_or ws i zero_write).key) (drop (i + 1) ws)) e)
+-- where some key is not below the next, they don't rise
+not_rising : (k : ℕ) (ws : List Write) (i : ℕ) → suc i < length ws → ((d : Write) → is_below (slice_index_or ws i d) (slice_index_or ws (suc i) d) ≡ false) → false ≡ rising_from k ws
+not_rising k [] i lt e = absurd (omega (arith, lt))
+not_rising k (w ∷ []) i lt e = absurd (omega (arith, lt))
+not_rising k (w ∷ v ∷ ws) zero lt e =
+    let next = nat_le (suc w.key) v.key in
+    sym (and_right (nat_le k w.key && is_key w.key) _ (and_left (next && is_key v.key) (rising_from (suc v.key) ws) (and_left next (is_key v.key) (e w))))
+not_rising k (w ∷ v ∷ ws) (suc i) lt e =
+    sym (and_right (nat_le k w.key && is_key w.key) _ (sym (not_rising (suc w.key) (v ∷ ws) i (omega (arith, lt)) e)))
+
+-- so two looks tell whether writes rise: is each key below the next, and are all in range?
+pub rising_by_two_looks : (ws : List Write) (sorted : Bool) → IsAllAdjacentAnswer (λ v w b. b ≡ is_below v w) ws sorted → (sorted && all has_fit_key ws) ≡ rising_from 0 ws
+rising_by_two_looks ws true s =
+    let below : (i : ℕ) (d : Write) → suc i < length ws → is_below (slice_index_or ws i d) (slice_index_or ws (suc i) d) ≡ true =
+    λ i d lt. subst (λ j. is_below (slice_index_or ws i d) (slice_index_or ws j d) ≡ true) (add-one i) (sym (s i d (omega (arith, lt)))) in
+    sym (rising_where_sorted 0 ws below (λ d lt. omega arith))
+rising_by_two_looks ws false (i, lt, e) =
+    let fails : (d : Write) → is_below (slice_index_or ws i d) (slice_index_or ws (suc i) d) ≡ false =
+    λ d. subst (λ j. is_below (slice_index_or ws i d) (slice_index_or ws j d) ≡ false) (add-one i) (sym (e d)) in
+    not_rising 0 ws i (omega (arith, lt)) fails

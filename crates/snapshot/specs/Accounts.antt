@@ -1,6 +1,6 @@
 -- The account of a committed chain, and when it is lawful.
-use Rattle.std.specs.Prelude.{ℕ, suc, ◌≤◌, min, max, Bool, true, ◌&&◌, ltb, List, [], ◌∷◌, length, take, fold, ◌==◌, nat_le, nat_lt}
-use Rattle.std.specs.List.{AllByRecursion}
+use Rattle.std.specs.Prelude.{ℕ, suc, ◌≤◌, min, max, Bool, true, ◌&&◌, List, [], ◌∷◌, length, take, fold, ◌==◌, nat_le, nat_lt}
+use Rattle.std.specs.List.{list_all, AllByRecursion}
 use Rattle.snapshot.specs.Intervals.{from_to, Lies, Current}
 use Rattle.snapshot.specs.Limits.{open_end, is_key, is_worker, is_timestamp, chain_readings, write_keys}
 use Rattle.snapshot.specs.declared.account.AccountHead.{AccountHead}
@@ -38,8 +38,7 @@ account_of h rs ws =
 
 -- every element passes the test
 abbrev pub all : {X : Type 0} → (X → Bool) → List X → Bool
-all test [] = true
-all test (x ∷ xs) = test x && all test xs
+all test xs = list_all test xs
 
 -- worker and key are in range, the timestamp is not after the promise, and the promise is before the open end
 abbrev pub sound_reading : ChainReading → Bool
@@ -65,7 +64,7 @@ rising_from k (w ∷ ws) = nat_le k w.key && is_key w.key && rising_from (suc w.
 -- 0 where nothing was written; else a commit's timestamp, later than every promise
 abbrev pub sound_timestamp : ℕ → List ChainReading → List Write → Bool
 sound_timestamp t rs [] = t == 0
-sound_timestamp t rs (w ∷ ws) = is_timestamp t && all (λ r. ltb r.reading.promise t) rs
+sound_timestamp t rs (w ∷ ws) = is_timestamp t && all (λ r. nat_lt r.reading.promise t) rs
 
 -- at most 32 readings and 8 writes
 abbrev pub few_enough : List ChainReading → List Write → Bool

@@ -1,11 +1,11 @@
 -- The first element of a list that passes a test.
-use Rattle.std.specs.Prelude.{◌≡◌, ℕ, suc, ◌<◌, Bool, true, false, cond, List, [], ◌∷◌, length, Some, None, Option, MatchOption, slice_index_or}
+use Rattle.std.specs.Prelude.{◌≡◌, ℕ, suc, ◌<◌, Bool, true, false, if◌then◌else◌, List, [], ◌∷◌, length, Some, None, Option, MatchOption, slice_index_or}
 use Rattle.std.specs.Option.{option_map}
 
 -- the place of the first element that passes
 abbrev pub first_with : {X : Type 0} → (X → Bool) → List X → Option ℕ
 first_with test [] = None
-first_with test (x ∷ xs) = cond (test x) (Some 0) (option_map suc (first_with test xs))
+first_with test (x ∷ xs) = if test x then Some 0 else option_map suc (first_with test xs)
 
 -- none passes below n
 abbrev pub NoneBelow : {X : Type 0} → (X → Bool) → List X → ℕ → Type 0

@@ -1,5 +1,5 @@
 -- Which times lie in an interval, and what meeting, narrowing and joining do to those times.
-use Rattle.std.specs.Prelude.{◌≡◌, ℕ, ◌≤◌, min, max, Bool, cond, ◌&&◌, Ok, Err, Decides, Result, nat_le}
+use Rattle.std.specs.Prelude.{◌≡◌, ℕ, ◌≤◌, min, max, Bool, if◌then◌else◌, ◌&&◌, Ok, Err, Decides, Result, nat_le}
 use Rattle.std.specs.Result as results
 use Rattle.snapshot.specs.declared.fault.Refusal.{Refusal}
 use Rattle.snapshot.specs.declared.fault.Refusal.TheVariants.{IntervalsApart}
@@ -22,9 +22,9 @@ narrowed i r = from_to (max i.low r.timestamp) (min i.high r.promise)
 -- joining: the larger low and the smaller high, refused where low would exceed high
 abbrev pub joined_or_refused : Interval → Interval → Result Interval Refusal
 joined_or_refused i j =
-    cond (nat_le (max i.low j.low) (min i.high j.high))
-    (Ok (from_to (max i.low j.low) (min i.high j.high)))
-    (Err IntervalsApart)
+    if nat_le (max i.low j.low) (min i.high j.high)
+    then Ok (from_to (max i.low j.low) (min i.high j.high))
+    else Err IntervalsApart
 
 -- What they mean.
 

@@ -43,11 +43,12 @@ impl fmt::Display for AccountHead {
     ghost output = { λ h. Some (head_text h) };
 
     fn fmt<W: fmt::Write>(&self, f: &mut fmt::Formatter<W>) -> fmt::Result {
-        let low = self.interval.low;
-        let high = self.interval.high;
-        let timestamp = self.timestamp;
-        let readings = self.readings;
-        let writes = self.writes;
+        let AccountHead {
+            interval: Interval { low, high },
+            timestamp,
+            readings,
+            writes,
+        } = *self;
         write!(f, "{low} {high} {timestamp} {readings} {writes}")
     }
 }

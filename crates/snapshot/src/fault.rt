@@ -5,27 +5,27 @@ ghost use Rattle.snapshot.specs.Refusals.{Numbered, number_of, unnamed, at_key, 
 // The reasons for which a call is refused, in the order of their numbers.
 #[derive(Clone, Copy, PartialEq, Eq, Debug)]
 pub enum Refusal {
-    OutOfRange,
-    PlaceOccupied,
-    NotOpen,
-    SameLeg,
-    TooManyLegs,
-    IntervalsApart,
-    WriteSetFull,
-    ReadingsFull,
-    AnotherLegOpen,
-    TooShort,
-    UnfitWrites,
-    ClockTooHigh,
-    NoTimeLeft,
-    CapacityExceeded,
-    VersionGone,
-    NoSuchNotice,
-    UnfitMemory,
-    AccountCut,
-    WrongMark,
-    WrongLastByte,
-    Unlawful,
+    OutOfRange = 1,
+    PlaceOccupied = 2,
+    NotOpen = 3,
+    SameLeg = 4,
+    TooManyLegs = 5,
+    IntervalsApart = 6,
+    WriteSetFull = 7,
+    ReadingsFull = 8,
+    AnotherLegOpen = 9,
+    TooShort = 10,
+    UnfitWrites = 11,
+    ClockTooHigh = 12,
+    NoTimeLeft = 13,
+    CapacityExceeded = 14,
+    VersionGone = 15,
+    NoSuchNotice = 16,
+    UnfitMemory = 17,
+    AccountCut = 18,
+    WrongMark = 19,
+    WrongLastByte = 20,
+    Unlawful = 21,
 }
 
 impl Refusal {
@@ -34,29 +34,7 @@ impl Refusal {
         ensures value { result ≡ number_of self }
         ensures own { Numbered self result }
     {
-        match self {
-            Refusal::OutOfRange => 1,
-            Refusal::PlaceOccupied => 2,
-            Refusal::NotOpen => 3,
-            Refusal::SameLeg => 4,
-            Refusal::TooManyLegs => 5,
-            Refusal::IntervalsApart => 6,
-            Refusal::WriteSetFull => 7,
-            Refusal::ReadingsFull => 8,
-            Refusal::AnotherLegOpen => 9,
-            Refusal::TooShort => 10,
-            Refusal::UnfitWrites => 11,
-            Refusal::ClockTooHigh => 12,
-            Refusal::NoTimeLeft => 13,
-            Refusal::CapacityExceeded => 14,
-            Refusal::VersionGone => 15,
-            Refusal::NoSuchNotice => 16,
-            Refusal::UnfitMemory => 17,
-            Refusal::AccountCut => 18,
-            Refusal::WrongMark => 19,
-            Refusal::WrongLastByte => 20,
-            Refusal::Unlawful => 21,
-        }
+        self as u8
     }
 }
 

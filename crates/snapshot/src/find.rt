@@ -17,12 +17,7 @@ pub fn find<K: Copy, T: Keyed<K>>(records: &[T], key: K) -> Option<usize>
     ensures value { result ≡ first_with (λ x. T.named x key) records.now }
     ensures means { FirstMeans (λ x. T.named x key) records.now result }
 {
-    for (place, record) in records.iter().enumerate() {
-        if record.has_key(key) {
-            return Some(place);
-        }
-    }
-    None
+    records.iter().position(|record| record.has_key(key))
 }
 
 impl Keyed<u8> for Write {

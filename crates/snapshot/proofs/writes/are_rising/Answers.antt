@@ -1,34 +1,33 @@
--- The first write out of its place decides; each one that was looked at has a value that fits.
-use Rattle.std.proofs.Common.{◌^◌, ◌<◌, sym, ◌∙◌}
-use Rattle.std.proofs.ByRecursion.{All-more}
-use Rattle.std.proofs.lemmas.List.{at_drop_all, take_all}
-use Rattle.std.proofs.lemmas.Bool.{false≢true}
-use Rattle.snapshot.specs.Accounts.{rising_from, zero_write}
-use Rattle.snapshot.proofs.Risings.{rising_fails, rising_passes}
+-- Two looks at the writes: whether each key is below the next, and whether all are in range.
+use Rattle.std.proofs.Common.{rules, ◌≡◌, true, false, ◌&&◌, MatchBool, length, ℕ, ◌<◌, slice_index_or, ◌^◌, sym, ap, subst, ◌∙◌}
+use Rattle.std.specs.List.{IsAllAdjacentAnswer, HoldsAt}
+use Rattle.std.proofs.lemmas.List.Sorted.{answers_always}
+use Rattle.std.proofs.lemmas.List.Elements.{recursion_from_All}
+use Rattle.snapshot.specs.Accounts.{all}
+use Rattle.snapshot.specs.declared.account.Write.{Write}
+use Rattle.snapshot.proofs.Alls.{all_by_each}
+use Rattle.snapshot.proofs.Risings.{has_fit_key, is_below, rising_by_two_looks}
 use Rattle.snapshot.proofs.writes.are_rising.Goals as goal
 
-pub returns-then-not-is_from : goal.returns-then-not-is_from
-returns-then-not-is_from c =
-    record {
-      value = rising_fails c.loop-write.least c.args.writes.now c.loop-write.write-index
-          c.loop-write-test.true
-          (sym c.if-not-is_from.ensures.value)
-          ∙ c.loop-write.invariant.0;
-      fits = λ e. absurd (false≢true e);
-    }
-
-pub loop-write-preserved : goal.loop-write-preserved
-loop-write-preserved c =
+pub returns-then-is_sorted_by-clause-value : goal.returns-then-is_sorted_by-clause-value
+returns-then-is_sorted_by-clause-value c =
     let ws = c.args.writes.now in
-    let i = c.loop-write.write-index in (
-      rising_passes c.loop-write.least ws i c.loop-write-test.true (sym c.if-not-is_from.ensures.value) ∙ c.loop-write.invariant.0,
-      All-more (λ w. w.value < 2 ^ 32) ws i zero_write c.loop-write-test.true c.loop-write.invariant.1 c.is_from.ensures.fits,
-    )
+    let sorted : IsAllAdjacentAnswer (λ v w b. b ≡ is_below v w) ws c.is_sorted_by.result =
+    c.is_sorted_by.ensures.cases is_below (answers_always _ _ _ (λ f a r f' k. search rules)) in
+    let each : MatchBool c.all.result ((k : ℕ) (d : Write) → k < length ws → has_fit_key (slice_index_or ws k d) ≡ true) ((k : ℕ) × (k < length ws) × HoldsAt (λ w. has_fit_key w ≡ false) ws k) = search rules in
+    all_by_each has_fit_key ws c.all.result each
+    ∙ sym (ap (λ b. b && all has_fit_key ws) c.if-is_sorted_by.true)
+    ∙ rising_by_two_looks ws c.is_sorted_by.result sorted
 
-pub returns : goal.returns
-returns c =
+pub returns-then-is_sorted_by-clause-fits : goal.returns-then-is_sorted_by-clause-fits
+returns-then-is_sorted_by-clause-fits c = λ e.
     let ws = c.args.writes.now in
-    record {
-      value = sym (at_drop_all (rising_from c.loop-write.least) ws c.loop-write.write-index c.loop-write-test.false) ∙ c.loop-write.invariant.0;
-      fits = λ _. rw (take_all c.loop-write.write-index ws c.loop-write-test.false) at c.loop-write.invariant.1;
-    }
+    let each : MatchBool c.all.result ((k : ℕ) (d : Write) → k < length ws → (slice_index_or ws k d).value < 2 ^ 32) ((k : ℕ) × (k < length ws) × HoldsAt (λ w. has_fit_key w ≡ false) ws k) = search rules in
+    recursion_from_All (λ w. w.value < 2 ^ 32) ws (subst (λ r. MatchBool r ((k : ℕ) (d : Write) → k < length ws → (slice_index_or ws k d).value < 2 ^ 32) ((k : ℕ) × (k < length ws) × HoldsAt (λ w. has_fit_key w ≡ false) ws k)) e each)
+
+pub returns-else-is_sorted_by-clause-value : goal.returns-else-is_sorted_by-clause-value
+returns-else-is_sorted_by-clause-value c =
+    let ws = c.args.writes.now in
+    let sorted : IsAllAdjacentAnswer (λ v w b. b ≡ is_below v w) ws c.is_sorted_by.result =
+    c.is_sorted_by.ensures.cases is_below (answers_always _ _ _ (λ f a r f' k. search rules)) in
+    c.if-is_sorted_by.false ∙ sym (ap (λ b. b && all has_fit_key ws) c.if-is_sorted_by.false) ∙ rising_by_two_looks ws c.is_sorted_by.result sorted
