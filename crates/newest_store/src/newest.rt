@@ -68,7 +68,9 @@ impl Reads for Newest {
 }
 
 impl Store for Newest {
-    ghost depth = { record { versions = 1; not_none = lit≤ tt } };
+    ghost depth = { 1 };
+
+    ghost not_none = { lit≤ tt };
 
     const DEPTH: usize = 1;
 

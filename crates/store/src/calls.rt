@@ -28,8 +28,8 @@ pub enum StoreAnswer {
 
 // Performs one call.
 pub fn perform<S: Store>(store: &mut S, call: StoreCall) -> StoreAnswer
-    ensures answer { result ≡ answer_of S.Store.depth.versions call.entry (S.Reads.meaning store.old) }
-    ensures after { S.Reads.meaning store.new ≡ after_call S.Store.depth.versions call.entry (S.Reads.meaning store.old) }
+    ensures answer { result ≡ answer_of S.Store.depth call.entry (S.Reads.meaning store.old) }
+    ensures after { S.Reads.meaning store.new ≡ after_call S.Store.depth call.entry (S.Reads.meaning store.old) }
 {
     match call {
         StoreCall::Last => StoreAnswer::Last(store.last()),
@@ -49,10 +49,10 @@ pub fn run<S: Store>(
     calls: &[StoreCall],
     answers: &mut Vec<StoreAnswer>,
 ) -> Result<(), AllocError>
-    ensures answers { MatchResult result (λ _. answers.new.items ≡ answers.old.items ++ answers_of S.Store.depth.versions calls.now (S.Reads.meaning store.old)) (λ _. answers.new.items ≡ answers.old.items) }
-    ensures after { MatchResult result (λ _. S.Reads.meaning store.new ≡ after_calls S.Store.depth.versions calls.now (S.Reads.meaning store.old)) (λ _. store.new ≡ store.old) }
+    ensures answers { MatchResult result (λ _. answers.new.items ≡ answers.old.items ++ answers_of S.Store.depth calls.now (S.Reads.meaning store.old)) (λ _. answers.new.items ≡ answers.old.items) }
+    ensures after { MatchResult result (λ _. S.Reads.meaning store.new ≡ after_calls S.Store.depth calls.now (S.Reads.meaning store.old)) (λ _. store.new ≡ store.old) }
     ensures succeeds { vec_len answers.old + length calls.now ≤ vec_capacity answers.old → is_ok result ≡ true }
-    ensures laws { OnOk result (KeepsLaws S.Store.depth.versions calls.now (S.Reads.meaning store.old) (S.Reads.meaning store.new)) }
+    ensures laws { OnOk result (KeepsLaws S.Store.depth calls.now (S.Reads.meaning store.old) (S.Reads.meaning store.new)) }
 {
     answers.reserve(calls.len())?;
     for call in calls {

@@ -1,7 +1,7 @@
 // The two traits of a store: the reading side, and the full store built on it. Every kind of store is known by its
 // meaning alone: each call answers what the rules draw from the meaning, and leaves the meaning that they draw.
-ghost use Rattle.std.specs.Prelude.{◌≡◌, OnErr};
-ghost use Rattle.store.specs.Meaning.{Depth, Meaning, version_answer, commit_answer, after_commit, after_prune};
+ghost use Rattle.std.specs.Prelude.{◌≡◌, ℕ, ◌≤◌, OnErr};
+ghost use Rattle.store.specs.Meaning.{Meaning, version_answer, commit_answer, after_commit, after_prune};
 
 use snapshot::account::{Reading, Write};
 use snapshot::fault::Fault;
@@ -22,20 +22,23 @@ pub trait Reads {
 
 // A store that can be written to, and told to forget old versions.
 pub trait Store: Reads {
-    // the most versions that a store of this kind keeps of one key: 1 or more
-    ghost depth: { Depth };
+    // the most versions that a store of this kind keeps of one key
+    ghost depth: { ℕ };
+
+    // it is 1 or more
+    ghost not_none: { 1 ≤ depth };
 
     const DEPTH: usize;
 
     // The depth, as a number that contracts can speak of: `DEPTH`.
     fn most_versions() -> usize
-        ensures { result ≡ depth.versions };
+        ensures { result ≡ depth };
 
     // Gives each written key a version at one new timestamp, and answers the timestamp. A refused commit leaves the
     // store's very value as it was.
     fn commit(&mut self, clock: u64, writes: &[Write]) -> Result<u64, Fault>
-        ensures answer { result ≡ commit_answer depth.versions clock writes.now (Self.Reads.meaning self.old) }
-        ensures after { Self.Reads.meaning self.new ≡ after_commit depth.versions clock writes.now (Self.Reads.meaning self.old) }
+        ensures answer { result ≡ commit_answer depth clock writes.now (Self.Reads.meaning self.old) }
+        ensures after { Self.Reads.meaning self.new ≡ after_commit depth clock writes.now (Self.Reads.meaning self.old) }
         ensures unchanged { OnErr result (self.new ≡ self.old) };
 
     // Drops of each key the versions older than the newest one that is above neither the horizon nor last.

@@ -107,7 +107,9 @@ impl<'a> Reads for Table<'a> {
 
 // Each call does to the meaning what the trait says; `laid` and `alone` say what it does to the records.
 impl<'a> Store for Table<'a> {
-    ghost depth = { record { versions = table_depth; not_none = lit≤ tt } };
+    ghost depth = { table_depth };
+
+    ghost not_none = { lit≤ tt };
 
     const DEPTH: usize = 16;
 

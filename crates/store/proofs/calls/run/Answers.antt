@@ -13,7 +13,7 @@ push_reserved-requires g c = omega (arith, c.loop-call.invariant.2, c.loop-call-
 
 pub loop-call-preserved : goal.loop-call-preserved
 loop-call-preserved g c =
-    let depth = g.S.Store.depth.versions in
+    let depth = g.S.Store.depth in
     let calls = c.args.calls.now in
     let i = c.loop-call.call-index in
     let lt = c.loop-call-test.true in
@@ -26,7 +26,7 @@ loop-call-preserved g c =
 
 pub returns : goal.returns
 returns g c =
-    let depth = g.S.Store.depth.versions in
+    let depth = g.S.Store.depth in
     let calls = c.args.calls.now in
     let i = c.loop-call.call-index in
     let m = g.S.Reads.meaning c.loop-call.store in
@@ -38,5 +38,5 @@ returns g c =
           ∙ ap (λ xs. xs ++ answers_of depth calls (g.S.Reads.meaning c.args.store.now)) c.in_ok-reserve.ensures.items;
       after = left;
       succeeds = λ _. refl;
-      laws = calls_keep_laws depth g.S.Store.depth.not_none calls _ m left;
+      laws = calls_keep_laws depth g.S.Store.not_none calls _ m left;
     }

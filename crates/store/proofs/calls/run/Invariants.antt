@@ -5,7 +5,7 @@ use Rattle.store.proofs.calls.run.Given as goal
 
 abbrev pub invariant-loop-call : goal.invariant-loop-call
 invariant-loop-call g l =
-    let depth = g.S.Store.depth.versions in
+    let depth = g.S.Store.depth in
     let before = g.S.Reads.meaning l.initial.store in
     let here = g.S.Reads.meaning l.store in
     let rest = drop l.call-index l.calls in
