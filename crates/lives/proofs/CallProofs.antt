@@ -35,7 +35,7 @@ module _ (caches : CacheRules) (write_sets : WriteSetRules) (limits : ChainLimit
   -- the engine is sound after what comes of a call
   abbrev pub After : (store : NewStore) (h : History) (told : ℕ → ChainTold) (m : Meaning) (s : Engine) (c : Call) → Outcome (AnswerTo c) → Type 0
   After store h told m s c o =
-      Sound store limits (history_with c (answer_in o) h) (told_with c (answer_in o) told) (store_with store.depth.versions c (answer_in o) m) (engine_in s o)
+      Sound store limits (history_with c (answer_in o) h) (told_with c (answer_in o) told) (store_with store.depth c (answer_in o) m) (engine_in s o)
 
 -- a join that is not refused leaves the times of both
 record Joined (i j n : Interval) : Type 0 where
@@ -78,14 +78,14 @@ module _
     abbrev Kept : (c : Call) → Outcome (AnswerTo c) → Type 0
     Kept c o = After caches write_sets limits store h told m s c o
 
-    pub begin_keeps : (p w : ℕ) → Kept (call.Begin p w) (step rules store.depth.versions (call.Begin p w) s)
+    pub begin_keeps : (p w : ℕ) → Kept (call.Begin p w) (step rules store.depth (call.Begin p w) s)
     begin_keeps p w =
         let P : Outcome ℕ → Type 0 = Kept (call.Begin p w) in
         at_check P _ _ _ sound (λ range.
         at_free P _ _ _ sound (λ free.
         place_sound store limits h told m s sound p nothing_told (Some (new_chain w)) (begin_sound h last limits w (and_parts _ _ range).1)))
 
-    pub hand_keeps : (p l w : ℕ) → Kept (call.Hand p l w) (step rules store.depth.versions (call.Hand p l w) s)
+    pub hand_keeps : (p l w : ℕ) → Kept (call.Hand p l w) (step rules store.depth (call.Hand p l w) s)
     hand_keeps p l w =
         let P : Outcome ℕ → Type 0 = Kept (call.Hand p l w) in
         at_check P _ _ _ sound (λ range.
@@ -93,7 +93,7 @@ module _
         at_check P _ _ _ sound (λ room.
         place_sound store limits h told m s sound p _ (Some _) (hand_sound h last limits (told p) chain (chain_at store limits h told m s sound p chain here) l leg is_open w (and_parts _ _ range).1 (ltb-true _ _ room)))))
 
-    pub fork_keeps : (p l w v : ℕ) → Kept (call.Fork p l w v) (step rules store.depth.versions (call.Fork p l w v) s)
+    pub fork_keeps : (p l w v : ℕ) → Kept (call.Fork p l w v) (step rules store.depth (call.Fork p l w v) s)
     fork_keeps p l w v =
         let P : Outcome (ℕ × ℕ) → Type 0 = Kept (call.Fork p l w v) in
         at_check P _ _ _ sound (λ range.
@@ -105,7 +105,7 @@ module _
         let first = hand_sound h last limits (told p) chain before l leg is_open w (and_parts _ _ workers.0).1 (omega arith) in
         place_sound store limits h told m s sound p _ (Some _) (also_open h last limits _ _ first (on_worker v leg) ((told p).written l) lt (on_worker_lem h last limits (told p) chain before l leg is_open v workers.1)))))
 
-    pub join_keeps : (p l j w : ℕ) → Kept (call.Join p l j w) (step rules store.depth.versions (call.Join p l j w) s)
+    pub join_keeps : (p l j w : ℕ) → Kept (call.Join p l j w) (step rules store.depth (call.Join p l j w) s)
     join_keeps p l j w =
         let P : Outcome ℕ → Type 0 = Kept (call.Join p l j w) in
         at_check P _ _ _ sound (λ range.
@@ -139,7 +139,7 @@ module _
         let no_wider_second : NoWider other new = record { low = omega (arith, both.low); high = omega (arith, both.high) } in
         place_sound store limits h told m s sound p _ (Some _) (join_sound h last limits (told p) chain before l leg is_open j other other_open new no_wider_first no_wider_second written (ltb-true _ _ room) new_sound))))))))
 
-    pub write_keeps : (p l k x : ℕ) → Kept (call.Write p l k x) (step rules store.depth.versions (call.Write p l k x) s)
+    pub write_keeps : (p l k x : ℕ) → Kept (call.Write p l k x) (step rules store.depth (call.Write p l k x) s)
     write_keeps p l k x =
         let P : Outcome (Unit {0}) → Type 0 = Kept (call.Write p l k x) in
         at_check P _ _ _ sound (λ range.
@@ -153,7 +153,7 @@ module _
         (leb-true _ _ few)
         (λ i. write_laws.write_has w leg.writes i of_leg.rising ∙ ap (λ o. cond (eqb i k) (Some x) o) (of_leg.as_told i))))))
 
-    pub abandon_keeps : (p : ℕ) → Kept (call.Abandon p) (step rules store.depth.versions (call.Abandon p) s)
+    pub abandon_keeps : (p : ℕ) → Kept (call.Abandon p) (step rules store.depth (call.Abandon p) s)
     abandon_keeps p =
         let P : Outcome (Unit {0}) → Type 0 = Kept (call.Abandon p) in
         at_check P _ _ _ sound (λ range.
@@ -185,7 +185,7 @@ module _
     -- a true reading that meets the leg's interval answers
     answered_sound :
         (p l k : ℕ) (chain : Chain) (leg : OpenLeg) → s.places p ≡ Some chain → chain.legs l ≡ running leg → (r : Reading) → TrueReading h last k r → meets_reading leg.interval r ≡ true →
-        length chain.readings < limits.readings → (cache : Cache) → AllTrue h last cache → Kept (call.Read p l k) (answered_by rules store.depth.versions p l k chain leg r cache s)
+        length chain.readings < limits.readings → (cache : Cache) → AllTrue h last cache → Kept (call.Read p l k) (answered_by rules store.depth p l k chain leg r cache s)
     answered_sound p l k chain leg here is_open r true_r meets few cache all =
         cache_sound store limits h _ m _
         (place_sound store limits h told m s sound p _ (Some _) (read_sound h last limits (told p) chain (chain_at store limits h told m s sound p chain here) l k leg is_open r true_r meets few))
@@ -196,7 +196,7 @@ module _
     store_meets k rs written leg r of_leg a =
         and_from _ _ (le-leb _ _ (omega (arith, of_leg.some, of_leg.from_known, a.as_far))) (le-leb _ _ a.not_later)
 
-    pub read_keeps : (p l k : ℕ) → Kept (call.Read p l k) (step rules store.depth.versions (call.Read p l k) s)
+    pub read_keeps : (p l k : ℕ) → Kept (call.Read p l k) (step rules store.depth (call.Read p l k) s)
     read_keeps p l k =
         let P : Outcome ℕ → Type 0 = Kept (call.Read p l k) in
         at_check P _ _ _ sound (λ range.
@@ -224,11 +224,11 @@ module _
         answered_sound p l k chain leg here is_open e.reading true_r known.2 (ltb-true _ _ few) _ (added_true cache _ e (cache_laws.used e cache) true_e (sound.caches leg.worker)))
         (λ _.
         at_result P _ _ _ (λ _ _. sound) (λ r answer.
-        let a = store_true store.depth.versions store.capacity s.store h sound.stands k leg.interval.high r key answer in
+        let a = store_true store.depth store.capacity s.store h sound.stands k leg.interval.high r key answer in
         answered_sound p l k chain leg here is_open r a.is_true (store_meets k chain.readings ((told p).written l) leg r of_leg a) (ltb-true _ _ few) _
         (added_true cache _ (entry_of k r) (cache_laws.stored leg.interval.high (entry_of k r) cache) a.is_true (sound.caches leg.worker)))))))))
 
-    pub deliver_keeps : (i : ℕ) → Kept (call.Deliver i) (step rules store.depth.versions (call.Deliver i) s)
+    pub deliver_keeps : (i : ℕ) → Kept (call.Deliver i) (step rules store.depth (call.Deliver i) s)
     deliver_keeps i =
         let P : Outcome (Unit {0}) → Type 0 = Kept (call.Deliver i) in
         at_else P _ _ _
@@ -237,7 +237,7 @@ module _
         cache_sound store limits h told m s sound n.worker _ (told_true n (s.caches n.worker) true_n (sound.caches n.worker)))
         (λ _. sound)
 
-    pub discard_keeps : (i : ℕ) → Kept (call.Discard i) (step rules store.depth.versions (call.Discard i) s)
+    pub discard_keeps : (i : ℕ) → Kept (call.Discard i) (step rules store.depth (call.Discard i) s)
     discard_keeps i =
         let P : Outcome (Unit {0}) → Type 0 = Kept (call.Discard i) in
         at_else P _ _ _
@@ -252,11 +252,11 @@ module _
         })
         (λ _. sound)
 
-    pub prune_keeps : (n : ℕ) → Kept (call.Prune n) (step rules store.depth.versions (call.Prune n) s)
+    pub prune_keeps : (n : ℕ) → Kept (call.Prune n) (step rules store.depth (call.Prune n) s)
     prune_keeps n =
         record {
           same_store = ap (after_prune n) sound.same_store;
-          stands = prune_stands store.depth.versions store.capacity s.store h sound.stands n;
+          stands = prune_stands store.depth store.capacity s.store h sound.stands n;
           before_end = sound.before_end;
           caches = sound.caches;
           notices = sound.notices;

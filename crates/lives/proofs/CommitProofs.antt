@@ -168,7 +168,7 @@ module _
     rules = rules_with caches write_sets limits
 
     abbrev depth : ℕ
-    depth = store.depth.versions
+    depth = store.depth
 
     -- the history after a commit of these writes at t
     abbrev with_commit : ℕ → List Write → History
@@ -190,7 +190,7 @@ module _
         let others : (q : ℕ) → IfSome (s.places q) (ChainSound h' t limits (told q)) = λ q. cases_on (ChainSound h last limits (told q)) (ChainSound h' t limits (told q)) (chain_on h last h' t on limits (told q)) (s.places q) (sound.chains q) in
         record {
           same_store = ap (with_writes depth t ws) sound.same_store;
-          stands = commit_stands depth store.capacity s.store h sound.stands clock ws t store.depth.not_none answer;
+          stands = commit_stands depth store.capacity s.store h sound.stands clock ws t store.not_none answer;
           before_end = ltb-true t open_end (and_parts _ _ (accepted_timestamp depth clock ws s.store t answer)).1;
           caches = λ w. All-weaker (λ e. TrueReading h last e.key e.reading) (λ e. TrueReading h' t e.key e.reading) (λ e. true_on h last h' t on e.key e.reading) (s.caches w) (sound.caches w);
           notices = raised_wait (λ n. TrueReading h' t n.key n.reading) caches.holds_key s.caches t ws s.notices noticed (All-weaker (λ n. TrueReading h last n.key n.reading) (λ n. TrueReading h' t n.key n.reading) (λ n. true_on h last h' t on n.key n.reading) s.notices.waiting sound.notices);

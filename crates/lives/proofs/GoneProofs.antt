@@ -41,11 +41,11 @@ module _
     abbrev rules : Rules
     rules = rules_with caches write_sets limits
 
-    pub read_gone : (p l k : ℕ) (f : EngineFault) → Err f ≡ answer_in (step rules store.depth.versions (call.Read p l k) s) → f.fault.refusal ≡ VersionGone → GoneLaw h m.kept (leg_at s p l) k
+    pub read_gone : (p l k : ℕ) (f : EngineFault) → Err f ≡ answer_in (step rules store.depth (call.Read p l k) s) → f.fault.refusal ≡ VersionGone → GoneLaw h m.kept (leg_at s p l) k
     read_gone p l k f e gone =
         let D : Type 0 = GoneLaw h m.kept (leg_at s p l) k in
         let P : Outcome ℕ → Type 0 = IfGone D in
-        if_gone D (step rules store.depth.versions (call.Read p l k) s) f e gone
+        if_gone D (step rules store.depth (call.Read p l k) s) f e gone
         (at_check P _ _ _ (λ clash. absurd (grind arith)) (λ range.
         at_open_leg P _ l _ _ (λ clash. absurd (grind arith)) (λ chain leg here is_open.
         at_else P _ _ _ (λ _ _. tt) (λ _.
@@ -57,7 +57,7 @@ module _
         let key : is_key k ≡ true = (and_parts _ _ range).1 in
         let high = leg.interval.high in
         let refusal : version_answer s.store k high ≡ Err (question_fault VersionGone k) = gone_fault k high _ fault answer is_gone in
-        let lost = ((law_from_stands store.depth.versions store.capacity s.store h sound.stands).of_keys k key).refused high refusal in
+        let lost = ((law_from_stands store.depth store.capacity s.store h sound.stands).of_keys k key).refused high refusal in
         record {
           reader = leg;
           is_open = ap (λ c. leg_in c l) here ∙ is_open;

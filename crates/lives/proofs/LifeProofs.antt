@@ -84,7 +84,7 @@ module _
     rules = rules_with caches write_sets limits
 
     abbrev depth : ℕ
-    depth = store.depth.versions
+    depth = store.depth
 
     call_keeps : (h : History) (told : ℕ → ChainTold) (m : Meaning) (s : Engine) → Sound store limits h told m s → (c : Call) → After caches write_sets limits store h told m s c (step rules depth c s)
     call_keeps h told m s sound (call.Begin p w) = begin_keeps caches cache_laws write_sets write_laws limits store h told m s sound p w
@@ -166,7 +166,7 @@ module _
           drawn = tt;
           engine = record {
             same_store = refl;
-            stands = new_stands depth store.capacity store.depth.not_none store.room;
+            stands = new_stands depth store.capacity store.not_none store.room;
             before_end = omega arith;
             caches = λ w. tt;
             notices = tt;

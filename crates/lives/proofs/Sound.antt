@@ -82,7 +82,7 @@ pub record ChainSound (h : History) (last : ℕ) (limits : ChainLimits) (told : 
 pub record Sound (store : NewStore) (limits : ChainLimits) (h : History) (told : ℕ → ChainTold) (m : Meaning) (s : Engine) : Type 0 where
   -- the store is as the life tells, and keeps the end of the history of each key
   pub same_store : s.store ≡ m
-  pub stands : Stands store.depth.versions store.capacity s.store h
+  pub stands : Stands store.depth store.capacity s.store h
   pub before_end : s.store.last < open_end
   -- every entry of every cache, and every notice that waits, is true
   pub caches : (w : ℕ) → AllTrue h s.store.last (s.caches w)

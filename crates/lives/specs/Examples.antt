@@ -61,7 +61,7 @@ pruned = morning ++ (evening ++ (call.Prune 30 ∷ []))
 
 -- a table of 1,024 records
 abbrev pub table : NewStore
-table = record { depth = record { versions = 16; not_none = lit≤ tt }; capacity = 1024; room = lit≤ tt }
+table = record { depth = 16; not_none = lit≤ tt; capacity = 1024; room = lit≤ tt }
 
 -- what all three readings agree on is time 20: the zone was 5 and the set record 3
 abbrev pub break_in_account : Account

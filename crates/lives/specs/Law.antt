@@ -81,7 +81,7 @@ pub record Lawful (rules : Rules) : Type 0 where
   -- a life that led to an engine, with any call more and what it is answered
   pub one_more_call :
       (store : NewStore) (life : Life) (s : Engine) (c : Call) → LedTo rules store life s →
-      LawOfLives rules store (event c (answer_in (step rules store.depth.versions c s)) ∷ life)
+      LawOfLives rules store (event c (answer_in (step rules store.depth c s)) ∷ life)
 
 -- whatever caches, write sets and limits keep their laws make lawful rules
 abbrev pub RestsOnLaws : Type 0

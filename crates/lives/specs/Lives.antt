@@ -6,7 +6,7 @@ use Rattle.snapshot.specs.Limits.{keys}
 use Rattle.snapshot.specs.declared.account.Write.{Write}
 use Rattle.snapshot.specs.declared.fault.EngineFault.{EngineFault}
 use Rattle.store.specs.Laws.{versions_of}
-use Rattle.store.specs.Meaning.{Depth, Meaning, version_of, new_store, with_writes, after_prune, written_to}
+use Rattle.store.specs.Meaning.{Meaning, version_of, new_store, with_writes, after_prune, written_to}
 use Rattle.store.specs.declared.version.Version.{Version}
 use Rattle.lives.specs.Engines.{Engine, new_engine}
 use Rattle.lives.specs.Rules.{Rules}
@@ -34,9 +34,10 @@ abbrev pub AtEach : (Event → Life → Type 0) → Life → Type 0
 AtEach R [] = Unit {0}
 AtEach R (e ∷ before) = R e before × AtEach R before
 
--- a new store of any depth, with room for a version of each key or more
+-- a new store of any depth from 1 on, with room for a version of each key or more
 pub record NewStore : Type 0 where
-  pub depth : Depth
+  pub depth : ℕ
+  pub not_none : 1 ≤ depth
   pub capacity : ℕ
   pub room : keys ≤ capacity
 
@@ -51,18 +52,18 @@ module _ (rules : Rules) (store : NewStore) where
   engine_after [] = new_over
   engine_after (e ∷ before) =
       let s = engine_after before in
-      engine_in s (step rules store.depth.versions e.called s)
+      engine_in s (step rules store.depth e.called s)
 
   -- every answer is the one that the rules draw from the calls before it
   abbrev pub AsDrawn : Life → Type 0
   AsDrawn life =
-      AtEach (λ e before. e.answer ≡ answer_in (step rules store.depth.versions e.called (engine_after before))) life
+      AtEach (λ e before. e.answer ≡ answer_in (step rules store.depth e.called (engine_after before))) life
 
   -- the life that goes on from an engine and the life that led to it
   abbrev pub life_from : Engine → Life → List Call → Life
   life_from s before [] = before
   life_from s before (c ∷ cs) =
-      let o = step rules store.depth.versions c s in
+      let o = step rules store.depth c s in
       life_from (engine_in s o) (event c (answer_in o) ∷ before) cs
 
   -- the life of a new engine over the new store, by its calls in order
@@ -124,7 +125,7 @@ store_with depth c (Err f) m = m
 -- the new store after the accepted commits and prunes of a life, by the rules of stores
 abbrev pub store_after : NewStore → Life → Meaning
 store_after store [] = new_store store.capacity
-store_after store (e ∷ before) = store_with store.depth.versions e.called e.answer (store_after store before)
+store_after store (e ∷ before) = store_with store.depth e.called e.answer (store_after store before)
 
 -- The chain at a place.
 

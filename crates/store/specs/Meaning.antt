@@ -1,5 +1,5 @@
 -- What a store means, and what its four calls answer and leave.
-use Rattle.std.specs.Prelude.{ℕ, zero, suc, ◌+◌, ◌-◌, ◌≤◌, min, max, Bool, false, cond, ◌&&◌, ◌||◌, List, [], ◌∷◌, ◌++◌, length, drop, Some, None, Ok, Err, Option, Result, ◌==◌, nat_le}
+use Rattle.std.specs.Prelude.{ℕ, zero, suc, ◌+◌, ◌-◌, min, max, Bool, false, cond, ◌&&◌, ◌||◌, List, [], ◌∷◌, ◌++◌, length, drop, Some, None, Ok, Err, Option, Result, ◌==◌, nat_le}
 use Rattle.std.specs.Option.{ok_or, option_or}
 use Rattle.std.specs.Result.{result_and}
 use Rattle.snapshot.specs.Accounts.{rising_from}
@@ -12,11 +12,6 @@ use Rattle.snapshot.specs.declared.fault.Layer.TheVariants.{Store}
 use Rattle.snapshot.specs.declared.fault.Refusal.{Refusal}
 use Rattle.snapshot.specs.declared.fault.Refusal.TheVariants.{OutOfRange, UnfitWrites, ClockTooHigh, NoTimeLeft, CapacityExceeded, VersionGone}
 use Rattle.store.specs.declared.version.Version.{Version}
-
--- a depth: the most versions that a kind of store keeps of one key, 1 or more
-pub record Depth : Type 0 where
-  pub versions : ℕ
-  pub not_none : 1 ≤ versions
 
 -- the last timestamp, the most versions of all keys together, and of each key the versions kept, oldest first
 pub record Meaning : Type 0 where
