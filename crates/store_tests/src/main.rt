@@ -11,7 +11,7 @@ use chance::Chance;
 use newest_store::newest::Newest;
 use snapshot::account::Reading;
 use snapshot::fault::Fault;
-use std::alloc::AllocError;
+use std::fmt;
 use store::calls::{StoreAnswer, perform};
 use store::traits::{Reads, Store};
 use table_store::record::{NO_RECORD, Record};
@@ -25,30 +25,39 @@ struct Plan {
     prunes: u64,
 }
 
-// A line with the call's letter and what it answered.
-fn show(answer: StoreAnswer, text: &mut String) -> Result<(), AllocError> {
-    match answer {
-        StoreAnswer::Last(last) => writeln!(text, "l {last}"),
-        StoreAnswer::Version(Ok(reading)) => {
-            let Reading {
-                value,
-                timestamp,
-                promise,
-            } = reading;
-            writeln!(text, "v {value} {timestamp} {promise}")
+// An answer as its line shows it: the call's letter, and what it answered.
+#[derive(Clone, Copy)]
+struct Answered(StoreAnswer);
+
+impl fmt::Display for Answered {
+    fn fmt<W: fmt::Write>(&self, f: &mut fmt::Formatter<W>) -> fmt::Result {
+        match self.0 {
+            StoreAnswer::Last(last) => write!(f, "l {last}"),
+            StoreAnswer::Version(
+                Ok(
+                    Reading {
+                        value,
+                        timestamp,
+                        promise,
+                    },
+                ),
+            ) => write!(f, "v {value} {timestamp} {promise}"),
+            StoreAnswer::Version(Err(fault)) => write!(f, "v {}", Refused(fault)),
+            StoreAnswer::Commit(Ok(timestamp)) => write!(f, "c {timestamp}"),
+            StoreAnswer::Commit(Err(fault)) => write!(f, "c {}", Refused(fault)),
+            StoreAnswer::Prune => f.write_str("p"),
         }
-        StoreAnswer::Version(Err(fault)) => show_fault('v', fault, text),
-        StoreAnswer::Commit(Ok(timestamp)) => writeln!(text, "c {timestamp}"),
-        StoreAnswer::Commit(Err(fault)) => show_fault('c', fault, text),
-        StoreAnswer::Prune => writeln!(text, "p"),
     }
 }
 
-// The call's letter, the refusal's number, and the key that the fault names.
-fn show_fault(letter: char, fault: Fault, text: &mut String) -> Result<(), AllocError> {
-    let number = fault.refusal.number();
-    let key = fault.key;
-    writeln!(text, "{letter} refused {number} {key}")
+// A fault as a line shows it: the refusal's number, and the key that the fault names.
+#[derive(Clone, Copy)]
+struct Refused(Fault);
+
+impl fmt::Display for Refused {
+    fn fmt<W: fmt::Write>(&self, f: &mut fmt::Formatter<W>) -> fmt::Result {
+        write!(f, "refused {} {}", self.0.refusal.number(), self.0.key)
+    }
 }
 
 // Performs the plan's next hundred calls, and prints their answers. In the last hundred the clock stands near the last
@@ -66,20 +75,36 @@ fn call_hundred<S: Store>(
         let last = store.last();
         let writes = chance.writes(rt.alloc())?;
         let call = chance.call(last, writes.as_slice(), plan.prunes, at_end);
-        show(perform(store, call), &mut text)?;
+        writeln!(text, "{}", Answered(perform(store, call)))?;
     }
     print!(rt; "{text}")?;
+    Ok(())
+}
+
+// Performs the plan's calls on the store, and runs `after_hundred` after every hundred of them.
+fn run_plan<S: Store, F: FnMut(&S) -> anyhow::Result<()>>(
+    rt: &HostRuntime,
+    store: &mut S,
+    plan: Plan,
+    mut after_hundred: F,
+) -> anyhow::Result<()>
+    requires { F.IsAlwaysCallable after_hundred }
+{
+    let mut chance = Chance::new(plan.seed);
+    for hundred in 1..=plan.hundreds {
+        call_hundred(rt, store, &mut chance, plan, hundred)?;
+        after_hundred(store)?;
+    }
     Ok(())
 }
 
 // A number in which every record counts, by its place.
 fn sum_of(records: &[Record]) -> u64 {
     let mut sum = 0u64;
-    for (place, record) in records.iter().enumerate() {
+    for (record, weight) in records.iter().zip(1u64..) {
         let number = (u64::from(record.key) * 31)
             .wrapping_add(record.timestamp.wrapping_mul(7))
             .wrapping_add(u64::from(record.value));
-        let weight = (place as u64).wrapping_add(1);
         sum = sum.wrapping_add(number.wrapping_mul(weight));
     }
     sum % 4_294_967_296
@@ -88,24 +113,16 @@ fn sum_of(records: &[Record]) -> u64 {
 fn run_table(rt: &HostRuntime, memory: &mut [Record], plan: Plan) -> anyhow::Result<()> {
     let size = memory.len();
     println!(rt; "table {size}")?;
-    let mut table = Table::new(memory);
-    let mut chance = Chance::new(plan.seed);
-    for hundred in 1..=plan.hundreds {
-        call_hundred(rt, &mut table, &mut chance, plan, hundred)?;
+    run_plan(rt, &mut Table::new(memory), plan, |table| {
         let sum = sum_of(table.records());
         println!(rt; "records {sum}")?;
-    }
-    Ok(())
+        Ok(())
+    })
 }
 
 fn run_newest(rt: &HostRuntime, plan: Plan) -> anyhow::Result<()> {
     println!(rt; "newest")?;
-    let mut newest = Newest::new();
-    let mut chance = Chance::new(plan.seed);
-    for hundred in 1..=plan.hundreds {
-        call_hundred(rt, &mut newest, &mut chance, plan, hundred)?;
-    }
-    Ok(())
+    run_plan(rt, &mut Newest::new(), plan, |_| Ok(()))
 }
 
 fn run(rt: &HostRuntime) -> anyhow::Result<()> {

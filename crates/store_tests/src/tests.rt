@@ -83,27 +83,22 @@ fn record(key: u8, timestamp: u64, value: u32) -> Record {
 
 // The store answers each call so, in this order.
 fn answers<S: Store>(
-    rt: &impl Abort,
-    heap: Global,
+    rt: &(impl Abort + AllocGlobal),
     store: &mut S,
     steps: &[(StoreCall, Seen)],
 ) -> Result<(), Fail> {
-    answers_named(rt, heap, "the store", store, steps)
+    answers_named(rt, "the store", store, steps)
 }
 
 // The same; where an answer is another, the message begins with the name.
 fn answers_named<N: Display + Drop, S: Store>(
-    rt: &impl Abort,
-    heap: Global,
+    rt: &(impl Abort + AllocGlobal),
     name: N,
     store: &mut S,
     steps: &[(StoreCall, Seen)],
 ) -> Result<(), Fail> {
-    let mut calls = Vec::new(heap);
-    for (call, _) in steps {
-        calls.push(*call)?;
-    }
-    let mut given = Vec::new(heap);
+    let calls: Vec<StoreCall> = steps.iter().map(|(call, _)| *call).collect(rt.alloc())?;
+    let mut given = Vec::new(rt.alloc());
     run(store, calls.as_slice(), &mut given)?;
     assert_eq!(rt; given.len(), steps.len());
     for (number, (answer, (_, expected))) in given.iter().zip(steps).enumerate() {
@@ -113,17 +108,16 @@ fn answers_named<N: Display + Drop, S: Store>(
 }
 
 // A new table of 200 records and a new newest store both answer each call so.
-fn both_answer(rt: &impl Abort, heap: Global, steps: &[(StoreCall, Seen)]) -> Result<(), Fail> {
+fn both_answer(rt: &(impl Abort + AllocGlobal), steps: &[(StoreCall, Seen)]) -> Result<(), Fail> {
     let mut memory = [USED; 200];
-    answers_named(rt, heap, "table", &mut Table::new(&mut memory), steps)?;
-    answers_named(rt, heap, "newest", &mut Newest::new(), steps)
+    answers_named(rt, "table", &mut Table::new(&mut memory), steps)?;
+    answers_named(rt, "newest", &mut Newest::new(), steps)
 }
 
 // Gives key 1 versions at 10 and 30 after its first, and key 2 one at 45, which is then last.
-fn fill<S: Store>(rt: &impl Abort, heap: Global, store: &mut S) -> Result<(), Fail> {
+fn fill<S: Store>(rt: &(impl Abort + AllocGlobal), store: &mut S) -> Result<(), Fail> {
     answers(
         rt,
-        heap,
         store,
         &[
             (commit(10, writes![1 = 11]), Seen::Commit(10)),
@@ -146,35 +140,26 @@ fn rewrite<S: Store>(rt: &impl Abort, store: &mut S, end: u32) {
 
 // The records of a new store but for those of these keys.
 fn first_records(heap: Global, dropped: &[u8]) -> Result<Vec<Record>, AllocError> {
-    let mut records = Vec::new(heap);
-    for key in 0..KEYS {
-        if !dropped.contains(&key) {
-            records.push(record(key, 0, 0))?;
-        }
-    }
-    Ok(records)
+    (0..KEYS)
+        .filter(|key| !dropped.contains(key))
+        .map(|key| record(key, 0, 0))
+        .collect(heap)
 }
 
 // The table's memory holds the first records but for those of the dropped keys, then these, then zeros.
 fn holds(
-    rt: &impl Abort,
-    heap: Global,
+    rt: &(impl Abort + AllocGlobal),
     table: &Table,
     dropped: &[u8],
     added: &[Record],
 ) -> Result<(), Fail> {
-    let mut expected = first_records(heap, dropped)?;
+    let mut expected = first_records(rt.alloc(), dropped)?;
     expected.extend_from_slice(added)?;
     let memory = table.records();
     assert!(rt; expected.len() <= memory.len());
-    for (place, found) in memory.iter().enumerate() {
-        assert_eq!(rt;
-            *found,
-            expected.get(place).copied().unwrap_or(NO_RECORD),
-            "{}",
-            place
-        );
-    }
+    let (front, rest) = memory.split_at(expected.len());
+    assert_eq!(rt; front, expected.as_slice());
+    assert!(rt; rest.iter().all(|record| *record == NO_RECORD));
     Ok(())
 }
 
@@ -186,7 +171,6 @@ fn both_stores_answer_alike_where_depth_and_capacity_do_not_matter(
 ) -> Result<(), Fail> {
     both_answer(
         &rt,
-        rt.alloc(),
         &[
             (StoreCall::Last, Seen::Last(0)),
             (version(5, 0), Seen::Version(0, 0, 0)),
@@ -214,23 +198,21 @@ fn both_stores_answer_alike_where_depth_and_capacity_do_not_matter(
 
 #[test]
 fn table_keeps_older_versions_and_newest_store_does_not(rt: HostRuntime) -> Result<(), Fail> {
-    let heap = rt.alloc();
     let mut memory = [USED; 72];
     let mut table = Table::new(&mut memory);
     let mut newest = Newest::new();
-    fill(&rt, heap, &mut table)?;
-    fill(&rt, heap, &mut newest)?;
+    fill(&rt, &mut table)?;
+    fill(&rt, &mut newest)?;
     let alike = [
         (StoreCall::Last, Seen::Last(45)),
         (version(1, 30), Seen::Version(13, 30, 45)),
         (version(2, 45), Seen::Version(22, 45, 45)),
         (version(3, 1), Seen::Version(0, 0, 45)),
     ];
-    answers(&rt, heap, &mut table, &alike)?;
-    answers(&rt, heap, &mut newest, &alike)?;
+    answers(&rt, &mut table, &alike)?;
+    answers(&rt, &mut newest, &alike)?;
     answers(
         &rt,
-        heap,
         &mut table,
         &[
             (version(1, 29), Seen::Version(11, 10, 29)),
@@ -239,7 +221,6 @@ fn table_keeps_older_versions_and_newest_store_does_not(rt: HostRuntime) -> Resu
     )?;
     answers(
         &rt,
-        heap,
         &mut newest,
         &[
             (version(1, 29), Seen::Refused(15, 1)),
@@ -252,11 +233,9 @@ fn table_keeps_older_versions_and_newest_store_does_not(rt: HostRuntime) -> Resu
 fn least_table_has_no_room_for_a_commit_and_newest_store_always_has(
     rt: HostRuntime,
 ) -> Result<(), Fail> {
-    let heap = rt.alloc();
     let mut memory = [USED; 64];
     answers(
         &rt,
-        heap,
         &mut Table::new(&mut memory),
         &[
             (commit(1, writes![7 = 1]), Seen::Refused(14, 255)),
@@ -269,7 +248,6 @@ fn least_table_has_no_room_for_a_commit_and_newest_store_always_has(
     rewrite(&rt, &mut newest, 40);
     answers(
         &rt,
-        heap,
         &mut newest,
         &[
             (version(7, 40), Seen::Version(40, 40, 40)),
@@ -317,7 +295,6 @@ fn run_adds_to_the_answers_that_are_there(rt: HostRuntime) -> Result<(), Fail> {
 fn questions_out_of_range_are_refused(rt: HostRuntime) -> Result<(), Fail> {
     both_answer(
         &rt,
-        rt.alloc(),
         &[
             (version(63, OPEN_END), Seen::Version(0, 0, 0)),
             (version(64, 0), Seen::Refused(1, 64)),
@@ -333,7 +310,6 @@ fn questions_out_of_range_are_refused(rt: HostRuntime) -> Result<(), Fail> {
 fn unfit_writes_are_refused(rt: HostRuntime) -> Result<(), Fail> {
     both_answer(
         &rt,
-        rt.alloc(),
         &[
             (commit(1, writes![]), Seen::Refused(11, 255)),
             (
@@ -380,7 +356,6 @@ fn unfit_writes_are_refused(rt: HostRuntime) -> Result<(), Fail> {
 fn clock_beyond_the_last_timestamp_is_refused(rt: HostRuntime) -> Result<(), Fail> {
     both_answer(
         &rt,
-        rt.alloc(),
         &[
             (commit(OPEN_END, writes![5 = 1]), Seen::Refused(12, 255)),
             (commit(u64::MAX, writes![5 = 1]), Seen::Refused(12, 255)),
@@ -394,7 +369,6 @@ fn clock_beyond_the_last_timestamp_is_refused(rt: HostRuntime) -> Result<(), Fai
 fn no_commit_follows_the_last_timestamp(rt: HostRuntime) -> Result<(), Fail> {
     both_answer(
         &rt,
-        rt.alloc(),
         &[
             (
                 commit(LAST_TIME - 1, writes![5 = 1]),
@@ -416,7 +390,6 @@ fn unfit_writes_are_refused_before_a_high_clock_and_that_before_want_of_time(
 ) -> Result<(), Fail> {
     both_answer(
         &rt,
-        rt.alloc(),
         &[
             (commit(OPEN_END, writes![]), Seen::Refused(11, 255)),
             (commit(LAST_TIME, writes![5 = 2]), Seen::Commit(LAST_TIME)),
@@ -428,12 +401,10 @@ fn unfit_writes_are_refused_before_a_high_clock_and_that_before_want_of_time(
 
 #[test]
 fn want_of_room_is_refused_last(rt: HostRuntime) -> Result<(), Fail> {
-    let heap = rt.alloc();
     let mut memory = [USED; 65];
     let mut table = Table::new(&mut memory);
     answers(
         &rt,
-        heap,
         &mut table,
         &[
             (
@@ -456,7 +427,6 @@ fn question_out_of_range_is_refused_before_a_version_is_looked_for(
 ) -> Result<(), Fail> {
     both_answer(
         &rt,
-        rt.alloc(),
         &[
             (commit(10, writes![63 = 1]), Seen::Commit(10)),
             (prune(10), Seen::Prune),
@@ -472,7 +442,6 @@ fn question_out_of_range_is_refused_before_a_version_is_looked_for(
 fn timestamp_is_the_clock_or_the_next_after_last(rt: HostRuntime) -> Result<(), Fail> {
     both_answer(
         &rt,
-        rt.alloc(),
         &[
             (commit(0, writes![5 = 1]), Seen::Commit(1)),
             (commit(99, writes![5 = 2]), Seen::Commit(99)),
@@ -486,13 +455,11 @@ fn timestamp_is_the_clock_or_the_next_after_last(rt: HostRuntime) -> Result<(), 
 
 #[test]
 fn version_is_the_newest_one_and_is_promised_up_to_the_next(rt: HostRuntime) -> Result<(), Fail> {
-    let heap = rt.alloc();
     let mut memory = [USED; 72];
     let mut table = Table::new(&mut memory);
-    fill(&rt, heap, &mut table)?;
+    fill(&rt, &mut table)?;
     answers(
         &rt,
-        heap,
         &mut table,
         &[
             (version(1, 0), Seen::Version(0, 0, 9)),
@@ -511,13 +478,11 @@ fn version_is_the_newest_one_and_is_promised_up_to_the_next(rt: HostRuntime) -> 
 
 #[test]
 fn seventeenth_version_drops_the_first(rt: HostRuntime) -> Result<(), Fail> {
-    let heap = rt.alloc();
     let mut memory = [USED; 200];
     let mut table = Table::new(&mut memory);
     rewrite(&rt, &mut table, 15);
     answers(
         &rt,
-        heap,
         &mut table,
         &[
             (version(7, 0), Seen::Version(0, 0, 0)),
@@ -533,23 +498,20 @@ fn seventeenth_version_drops_the_first(rt: HostRuntime) -> Result<(), Fail> {
             (version(7, 2), Seen::Version(2, 2, 2)),
         ],
     )?;
-    let mut kept = Vec::new(heap);
-    for value in 2..=17 {
-        kept.push(record(7, u64::from(value), value))?;
-    }
-    holds(&rt, heap, &table, &[7], kept.as_slice())
+    let kept: Vec<Record> = (2..=17)
+        .map(|value| record(7, u64::from(value), value))
+        .collect(rt.alloc())?;
+    holds(&rt, &table, &[7], kept.as_slice())
 }
 
 #[test]
 fn commit_may_just_fit_and_one_beyond_the_capacity_changes_nothing(
     rt: HostRuntime,
 ) -> Result<(), Fail> {
-    let heap = rt.alloc();
     let mut memory = [USED; 72];
     let mut table = Table::new(&mut memory);
     answers(
         &rt,
-        heap,
         &mut table,
         &[(
             commit(
@@ -559,17 +521,16 @@ fn commit_may_just_fit_and_one_beyond_the_capacity_changes_nothing(
             Seen::Commit(10),
         )],
     )?;
-    let before = table.records().to_vec(heap)?;
+    let before = table.records().to_vec(rt.alloc())?;
     let answered = [
         (StoreCall::Last, Seen::Last(10)),
         (version(0, 9), Seen::Version(0, 0, 9)),
         (version(7, 20), Seen::Version(8, 10, 10)),
         (version(8, 20), Seen::Version(0, 0, 10)),
     ];
-    answers(&rt, heap, &mut table, &answered)?;
+    answers(&rt, &mut table, &answered)?;
     answers(
         &rt,
-        heap,
         &mut table,
         &[
             (commit(20, writes![8 = 2]), Seen::Refused(14, 255)),
@@ -584,10 +545,9 @@ fn commit_may_just_fit_and_one_beyond_the_capacity_changes_nothing(
         ],
     )?;
     assert_eq!(rt; table.records(), before.as_slice());
-    answers(&rt, heap, &mut table, &answered)?;
+    answers(&rt, &mut table, &answered)?;
     answers(
         &rt,
-        heap,
         &mut table,
         &[
             (prune(10), Seen::Prune),
@@ -598,37 +558,32 @@ fn commit_may_just_fit_and_one_beyond_the_capacity_changes_nothing(
 
 #[test]
 fn commit_of_one_too_many_is_refused_whole(rt: HostRuntime) -> Result<(), Fail> {
-    let heap = rt.alloc();
     let mut memory = [USED; 65];
     let mut table = Table::new(&mut memory);
     answers(
         &rt,
-        heap,
         &mut table,
         &[
             (commit(10, writes![0 = 1, 1 = 1]), Seen::Refused(14, 255)),
             (version(0, 10), Seen::Version(0, 0, 0)),
         ],
     )?;
-    holds(&rt, heap, &table, &[], &[])?;
+    holds(&rt, &table, &[], &[])?;
     answers(
         &rt,
-        heap,
         &mut table,
         &[(commit(10, writes![1 = 1]), Seen::Commit(10))],
     )?;
-    holds(&rt, heap, &table, &[], &[record(1, 10, 1)])
+    holds(&rt, &table, &[], &[record(1, 10, 1)])
 }
 
 #[test]
 fn full_table_takes_a_commit_that_drops_as_many_as_it_adds(rt: HostRuntime) -> Result<(), Fail> {
-    let heap = rt.alloc();
     let mut memory = [USED; 79];
     let mut table = Table::new(&mut memory);
     rewrite(&rt, &mut table, 15);
     answers(
         &rt,
-        heap,
         &mut table,
         &[
             (commit(16, writes![8 = 1]), Seen::Refused(14, 255)),
@@ -645,7 +600,6 @@ fn full_table_takes_a_commit_that_drops_as_many_as_it_adds(rt: HostRuntime) -> R
 
 #[test]
 fn prune_drops_what_is_older_than_the_version_at_the_horizon(rt: HostRuntime) -> Result<(), Fail> {
-    let heap = rt.alloc();
     let first = Seen::Version(0, 0, 9);
     let second = Seen::Version(11, 10, 29);
     let gone = Seen::Refused(15, 1);
@@ -668,10 +622,9 @@ fn prune_drops_what_is_older_than_the_version_at_the_horizon(rt: HostRuntime) ->
     for (horizon, at_nine, at_twenty_nine, of_other) in cases {
         let mut memory = [USED; 72];
         let mut table = Table::new(&mut memory);
-        fill(&rt, heap, &mut table)?;
+        fill(&rt, &mut table)?;
         answers_named(
             &rt,
-            heap,
             horizon,
             &mut table,
             &[
@@ -691,13 +644,11 @@ fn prune_drops_what_is_older_than_the_version_at_the_horizon(rt: HostRuntime) ->
 
 #[test]
 fn prune_above_last_reaches_no_later_version(rt: HostRuntime) -> Result<(), Fail> {
-    let heap = rt.alloc();
     let mut memory = [USED; 72];
     let mut table = Table::new(&mut memory);
-    fill(&rt, heap, &mut table)?;
+    fill(&rt, &mut table)?;
     answers(
         &rt,
-        heap,
         &mut table,
         &[
             (prune(u64::MAX), Seen::Prune),
@@ -710,13 +661,11 @@ fn prune_above_last_reaches_no_later_version(rt: HostRuntime) -> Result<(), Fail
 
 #[test]
 fn prune_leaves_the_newest_store_as_it_is(rt: HostRuntime) -> Result<(), Fail> {
-    let heap = rt.alloc();
     let mut newest = Newest::new();
-    fill(&rt, heap, &mut newest)?;
+    fill(&rt, &mut newest)?;
     for horizon in [0, 29, 45, u64::MAX] {
         answers_named(
             &rt,
-            heap,
             horizon,
             &mut newest,
             &[
@@ -735,23 +684,20 @@ fn prune_leaves_the_newest_store_as_it_is(rt: HostRuntime) -> Result<(), Fail> {
 
 #[test]
 fn new_table_holds_each_key_once_and_then_zeros(rt: HostRuntime) -> Result<(), Fail> {
-    let heap = rt.alloc();
     let mut least = [USED; 64];
-    holds(&rt, heap, &Table::new(&mut least), &[], &[])?;
+    holds(&rt, &Table::new(&mut least), &[], &[])?;
     let mut more = [USED; 72];
-    holds(&rt, heap, &Table::new(&mut more), &[], &[])?;
+    holds(&rt, &Table::new(&mut more), &[], &[])?;
     let mut most = [USED; 1024];
-    holds(&rt, heap, &Table::new(&mut most), &[], &[])
+    holds(&rt, &Table::new(&mut most), &[], &[])
 }
 
 #[test]
 fn records_stand_by_timestamp_and_key_and_close_up_in_a_prune(rt: HostRuntime) -> Result<(), Fail> {
-    let heap = rt.alloc();
     let mut memory = [USED; 72];
     let mut table = Table::new(&mut memory);
     answers(
         &rt,
-        heap,
         &mut table,
         &[
             (commit(10, writes![3 = 30, 5 = 50]), Seen::Commit(10)),
@@ -765,14 +711,13 @@ fn records_stand_by_timestamp_and_key_and_close_up_in_a_prune(rt: HostRuntime) -
         record(3, 20, 31),
         record(63, 20, 9),
     ];
-    holds(&rt, heap, &table, &[], &committed)?;
-    answers(&rt, heap, &mut table, &[(prune(9), Seen::Prune)])?;
-    holds(&rt, heap, &table, &[], &committed)?;
-    answers(&rt, heap, &mut table, &[(prune(19), Seen::Prune)])?;
-    holds(&rt, heap, &table, &[3, 5], &committed)?;
+    holds(&rt, &table, &[], &committed)?;
+    answers(&rt, &mut table, &[(prune(9), Seen::Prune)])?;
+    holds(&rt, &table, &[], &committed)?;
+    answers(&rt, &mut table, &[(prune(19), Seen::Prune)])?;
+    holds(&rt, &table, &[3, 5], &committed)?;
     answers(
         &rt,
-        heap,
         &mut table,
         &[
             (prune(20), Seen::Prune),
@@ -781,7 +726,6 @@ fn records_stand_by_timestamp_and_key_and_close_up_in_a_prune(rt: HostRuntime) -
     )?;
     holds(
         &rt,
-        heap,
         &table,
         &[0, 3, 5, 63],
         &[
@@ -799,7 +743,6 @@ fn records_stay_in_the_memory_after_the_table(rt: HostRuntime) -> Result<(), Fai
     let mut memory = [USED; 72];
     answers(
         &rt,
-        rt.alloc(),
         &mut Table::new(&mut memory),
         &[(commit(10, writes![3 = 30]), Seen::Commit(10))],
     )?;
@@ -824,8 +767,12 @@ fn memory_of_64_to_1_024_records_is_fit(rt: HostRuntime) {
 }
 
 // The memory is refused, and a table in it leaves it alone, answers as a new store and takes no commit.
-fn is_unfit(rt: &impl Abort, heap: Global, name: &str, memory: &mut [Record]) -> Result<(), Fail> {
-    let before = memory.to_vec(heap)?;
+fn is_unfit(
+    rt: &(impl Abort + AllocGlobal),
+    name: &str,
+    memory: &mut [Record],
+) -> Result<(), Fail> {
+    let before = memory.to_vec(rt.alloc())?;
     let Err(fault) = Table::check(memory) else {
         return Err(Fail::new(format_args!("{name}: taken as fit")));
     };
@@ -834,7 +781,6 @@ fn is_unfit(rt: &impl Abort, heap: Global, name: &str, memory: &mut [Record]) ->
     assert_eq!(rt; table.records(), before.as_slice(), "{name}");
     answers_named(
         rt,
-        heap,
         name,
         &mut table,
         &[
@@ -858,8 +804,7 @@ fn is_unfit(rt: &impl Abort, heap: Global, name: &str, memory: &mut [Record]) ->
 
 #[test]
 fn memory_of_another_size_is_unfit(rt: HostRuntime) -> Result<(), Fail> {
-    let heap = rt.alloc();
-    is_unfit(&rt, heap, "no records", &mut [])?;
-    is_unfit(&rt, heap, "63 records", &mut [USED; 63])?;
-    is_unfit(&rt, heap, "1,025 records", &mut [USED; 1025])
+    is_unfit(&rt, "no records", &mut [])?;
+    is_unfit(&rt, "63 records", &mut [USED; 63])?;
+    is_unfit(&rt, "1,025 records", &mut [USED; 1025])
 }
