@@ -54,7 +54,7 @@ impl Reads for Newest {
 
     fn version(&self, key: u8, time: u64) -> Result<Reading, Fault> {
         check_question(key, time)?;
-        let version = self.versions[key as usize];
+        let version = self.versions[usize::from(key)];
         if version.timestamp <= time {
             Ok(Reading {
                 value: version.value,
@@ -95,7 +95,7 @@ fn put_all(versions: &mut [Version], timestamp: u64, writes: &[Write])
     ensures { (k : ℕ) → version_at k versions.new ≡ version_with timestamp (written_to k writes.now) (version_at k versions.old) }
 {
     for write in writes {
-        versions[write.key as usize] = Version {
+        versions[usize::from(write.key)] = Version {
             timestamp,
             value: write.value,
         };

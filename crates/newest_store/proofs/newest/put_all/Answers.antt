@@ -1,22 +1,28 @@
 -- Each turn puts the next write's version, and a key in range has a place.
-use Rattle.std.proofs.Common.{◌<◌, sym, ap, ◌∙◌, arith}
+use Rattle.std.proofs.Common.{◌+◌, ◌<◌, drop, slice_index_or, slice_set, sym, ap, ◌∙◌, arith}
 use Rattle.std.proofs.ByRecursion.{All-get_or}
 use Rattle.std.proofs.lemmas.List.{at_drop_more, at_drop_all}
 use Rattle.snapshot.specs.Accounts.{zero_write}
 use Rattle.snapshot.specs.Limits.{keys}
 use Rattle.newest_store.specs.Newest.{version_at}
+use Rattle.store.specs.Meaning.{version_of}
 use Rattle.store.proofs.Writes.{rising_keys}
 use Rattle.newest_store.proofs.Putting.{put_all, put_gives}
 use Rattle.newest_store.proofs.newest.put_all.Goals as goal
 
-pub bounds-versions-write : goal.bounds-versions-write
-bounds-versions-write c =
+pub bounds-versions-from : goal.bounds-versions-from
+bounds-versions-from c =
     let ws = c.args.writes.now in
-    omega (arith, All-get_or (λ w. w.key < keys) ws c.loop-write.write-index zero_write c.loop-write-test.true (rising_keys 0 ws c.requires.rising))
+    omega (arith, c.from.ensures, All-get_or (λ w. w.key < keys) ws c.loop-write.write-index zero_write c.loop-write-test.true (rising_keys 0 ws c.requires.rising))
 
 pub loop-write-preserved : goal.loop-write-preserved
 loop-write-preserved c =
-    sym (at_drop_more (λ ws. put_all c.args.timestamp ws c.loop-write.versions) c.args.writes.now c.loop-write.write-index zero_write c.loop-write-test.true)
+    let t = c.args.timestamp in
+    let ws = c.args.writes.now in
+    let i = c.loop-write.write-index in
+    let w = slice_index_or ws i zero_write in
+    ap (λ k. put_all t (drop (i + 1) ws) (slice_set c.loop-write.versions k (version_of t w.value))) c.from.ensures
+    ∙ sym (at_drop_more (λ xs. put_all t xs c.loop-write.versions) ws i zero_write c.loop-write-test.true)
     ∙ c.loop-write.invariant
 
 pub returns : goal.returns
