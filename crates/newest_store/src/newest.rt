@@ -1,7 +1,6 @@
 // A store of depth 1 and capacity 64: the newest version of each key in place, with no memory of the caller's.
 ghost use Rattle.std.specs.Prelude.{◌≡◌, ℕ, true, length, nat_le};
 ghost use Rattle.std.proofs.Common.{lit≤};
-ghost use Rattle.snapshot.specs.Accounts.{rising_from};
 ghost use Rattle.snapshot.specs.Limits.{keys};
 ghost use Rattle.store.specs.Meaning.{new_store, versions_kept, with_writes, written_to};
 ghost use Rattle.newest_store.specs.Newest.{newest_meaning, version_at, version_with};
@@ -11,6 +10,7 @@ use snapshot::fault::{Fault, Layer, Refusal};
 use snapshot::limits::KEYS;
 use store::checks::{check_commit, check_question};
 use store::traits::{Reads, Store};
+use store::update::Update;
 use store::version::Version;
 
 // The last timestamp, and the newest version of each key.
@@ -34,14 +34,13 @@ impl Newest {
         }
     }
 
-    // Commits the writes at this timestamp, for which there is always room.
-    fn write(&mut self, timestamp: u64, writes: &[Write])
-        requires { rising_from 0 writes.now ≡ true }
-        ensures meaning { newest_meaning self.new ≡ with_writes 1 timestamp writes.now (newest_meaning self.old) }
-        ensures room { nat_le (versions_kept (with_writes 1 timestamp writes.now (newest_meaning self.old))) keys ≡ true }
+    // Commits the update, for which there is always room.
+    fn write(&mut self, update: Update)
+        ensures meaning { newest_meaning self.new ≡ with_writes 1 update.entry.timestamp update.entry.writes.now (newest_meaning self.old) }
+        ensures room { nat_le (versions_kept (with_writes 1 update.entry.timestamp update.entry.writes.now (newest_meaning self.old))) keys ≡ true }
     {
-        put_all(&mut self.versions, timestamp, writes);
-        self.last = timestamp;
+        put_all(&mut self.versions, update);
+        self.last = update.timestamp;
     }
 }
 
@@ -79,24 +78,23 @@ impl Store for Newest {
     }
 
     fn commit(&mut self, clock: u64, writes: &[Write]) -> Result<u64, Fault> {
-        let timestamp = check_commit(clock, writes, self.last)?;
-        self.write(timestamp, writes);
-        Ok(timestamp)
+        let update = check_commit(clock, writes, self.last)?;
+        self.write(update);
+        Ok(update.timestamp)
     }
 
     // One version of a key is never older than the newest, so there is nothing to drop.
     fn prune(&mut self, horizon: u64) {}
 }
 
-// Puts a version at the timestamp in the place of each written key.
-fn put_all(versions: &mut [Version], timestamp: u64, writes: &[Write])
-    requires room { length versions.old ≡ keys }
-    requires rising { rising_from 0 writes.now ≡ true }
-    ensures { (k : ℕ) → version_at k versions.new ≡ version_with timestamp (written_to k writes.now) (version_at k versions.old) }
+// Puts a version in the place of each key that the update writes.
+fn put_all(versions: &mut [Version], update: Update)
+    requires { length versions.old ≡ keys }
+    ensures { (k : ℕ) → version_at k versions.new ≡ version_with update.entry.timestamp (written_to k update.entry.writes.now) (version_at k versions.old) }
 {
-    for write in writes {
+    for write in update.writes {
         versions[usize::from(write.key)] = Version {
-            timestamp,
+            timestamp: update.timestamp,
             value: write.value,
         };
     }

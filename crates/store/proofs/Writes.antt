@@ -1,12 +1,15 @@
 -- Writes that a commit takes: their keys rise strictly and lie in range, so that each key is written at most once.
-use Rattle.std.proofs.Common.{◌≡◌, ℕ, suc, ◌<◌, ◌≤◌, true, false, ◌&&◌, leb, List, [], ◌∷◌, None, refl, arith}
+use Rattle.std.proofs.Common.{◌≡◌, ℕ, suc, ◌<◌, ◌≤◌, true, false, ◌&&◌, leb, nat_le, List, [], ◌∷◌, length, None, refl, arith}
 use Rattle.std.specs.List.{AllByRecursion}
 use Rattle.std.proofs.lemmas.Bool.{and_parts}
 use Rattle.std.proofs.lemmas.Bool.Decides.{nat_tests}
 use Rattle.snapshot.specs.Accounts.{rising_from}
-use Rattle.snapshot.specs.Limits.{keys, is_key}
+use Rattle.snapshot.specs.Limits.{keys, write_keys, is_key}
 use Rattle.snapshot.specs.declared.account.Write.{Write}
-use Rattle.store.specs.Meaning.{written_to}
+use Rattle.store.specs.Meaning.{fit_writes, written_to}
+
+pub fit_rises : (ws : List Write) → fit_writes ws ≡ true → rising_from 0 ws ≡ true
+fit_rises ws e = (and_parts (nat_le 1 (length ws) && nat_le (length ws) write_keys) (rising_from 0 ws) e).1
 
 pub rising_later : (least : ℕ) (w : Write) (ws : List Write) → rising_from least (w ∷ ws) ≡ true → rising_from (suc w.key) ws ≡ true
 rising_later least w ws e = (and_parts (leb least w.key && is_key w.key) (rising_from (suc w.key) ws) e).1

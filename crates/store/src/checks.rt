@@ -1,8 +1,10 @@
 // What every store checks before it looks at its versions: the key and time of a question, the writes and clock reading
 // of a commit.
 ghost use Rattle.std.specs.Prelude.{◌≡◌};
-ghost use Rattle.store.specs.Meaning.{fit_writes, issued, timestamp_for, in_range};
+ghost use Rattle.store.specs.Checking.{Checked};
+ghost use Rattle.store.specs.Meaning.{fit_writes, issued, in_range};
 
+use crate::update::Update;
 use snapshot::account::Write;
 use snapshot::fault::{Fault, Layer, Refusal};
 use snapshot::limits::{OPEN_END, WRITE_KEYS, is_key, is_time};
@@ -39,12 +41,13 @@ pub fn issue(clock: u64, last: u64) -> Result<u64, Fault>
     Ok(clock.max(last + 1))
 }
 
-// The timestamp of a commit of these writes, refused where the writes are unfit or no timestamp can be issued.
-pub fn check_commit(clock: u64, writes: &[Write], last: u64) -> Result<u64, Fault>
-    ensures { result ≡ timestamp_for clock writes.now last }
+// The writes with the timestamp that they get, refused where the writes are unfit or no timestamp can be issued.
+pub fn check_commit<'a>(clock: u64, writes: &'a [Write], last: u64) -> Result<Update<'a>, Fault>
+    ensures { Checked clock writes.now last result }
 {
     if are_fit(writes) {
-        issue(clock, last)
+        let timestamp = issue(clock, last)?;
+        Ok(Update { timestamp, writes })
     } else {
         Err(Fault::unnamed(Refusal::UnfitWrites, Layer::Store))
     }

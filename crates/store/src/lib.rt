@@ -4,5 +4,6 @@
 pub mod calls;
 pub mod checks;
 pub mod traits;
+pub mod update;
 pub mod version;
 pub mod worked;

@@ -6,19 +6,19 @@ use Rattle.snapshot.specs.Accounts.{zero_write}
 use Rattle.snapshot.specs.Limits.{keys}
 use Rattle.newest_store.specs.Newest.{version_at}
 use Rattle.store.specs.Meaning.{version_of}
-use Rattle.store.proofs.Writes.{rising_keys}
+use Rattle.store.proofs.Writes.{fit_rises, rising_keys}
 use Rattle.newest_store.proofs.Putting.{put_all, put_gives}
 use Rattle.newest_store.proofs.newest.put_all.Goals as goal
 
 pub bounds-versions-from : goal.bounds-versions-from
 bounds-versions-from c =
-    let ws = c.args.writes.now in
-    omega (arith, c.from.ensures, All-get_or (λ w. w.key < keys) ws c.loop-write.write-index zero_write c.loop-write-test.true (rising_keys 0 ws c.requires.rising))
+    let ws = c.args.update.writes.now in
+    omega (arith, c.from.ensures, All-get_or (λ w. w.key < keys) ws c.loop-write.write-index zero_write c.loop-write-test.true (rising_keys 0 ws (fit_rises ws c.args.update.fit)))
 
 pub loop-write-preserved : goal.loop-write-preserved
 loop-write-preserved c =
-    let t = c.args.timestamp in
-    let ws = c.args.writes.now in
+    let t = c.args.update.timestamp in
+    let ws = c.args.update.writes.now in
     let i = c.loop-write.write-index in
     let w = slice_index_or ws i zero_write in
     ap (λ k. put_all t (drop (i + 1) ws) (slice_set c.loop-write.versions k (version_of t w.value))) c.from.ensures
@@ -27,7 +27,7 @@ loop-write-preserved c =
 
 pub returns : goal.returns
 returns c k =
-    let t = c.args.timestamp in
-    let ws = c.args.writes.now in
+    let t = c.args.update.timestamp in
+    let ws = c.args.update.writes.now in
     let all = sym (at_drop_all (λ ws. put_all t ws c.loop-write.versions) ws c.loop-write.write-index c.loop-write-test.false) ∙ c.loop-write.invariant in
-    ap (version_at k) all ∙ put_gives t k 0 ws c.args.versions.now c.requires.room c.requires.rising
+    ap (version_at k) all ∙ put_gives t k 0 ws c.args.versions.now c.requires (fit_rises ws c.args.update.fit)

@@ -5,4 +5,4 @@ use Rattle.newest_store.proofs.newest.put_all.Given as goal
 
 abbrev pub invariant-loop-write : goal.invariant-loop-write
 invariant-loop-write l =
-    put_all l.timestamp (drop l.write-index l.writes) l.versions ≡ put_all l.timestamp l.writes l.initial.versions
+    put_all l.update.timestamp (drop l.write-index l.update.writes.now) l.versions ≡ put_all l.update.timestamp l.update.writes.now l.initial.versions
