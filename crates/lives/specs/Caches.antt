@@ -1,5 +1,5 @@
 -- A worker's cache: its entries in the order of their use, the one used longest ago first.
-use Rattle.std.specs.Prelude.{ℕ, ◌-◌, max, Bool, false, cond, List, [], ◌∷◌, ◌++◌, length, drop, is_some, Some, None, Option, ◌==◌, nat_lt}
+use Rattle.std.specs.Prelude.{ℕ, ◌-◌, max, Bool, false, if◌then◌else◌, List, [], ◌∷◌, ◌++◌, length, drop, is_some, Some, None, Option, ◌==◌, nat_lt}
 use Rattle.snapshot.specs.Intervals.{meets_reading}
 use Rattle.snapshot.specs.Limits.{cache_keys}
 use Rattle.snapshot.specs.declared.account.Reading.{Reading}
@@ -16,7 +16,7 @@ entry_of k r = record { key = k; reading = r }
 -- the entry of a key, if there is one
 abbrev pub look_up : ℕ → Cache → Option CacheEntry
 look_up k [] = None
-look_up k (e ∷ es) = cond (e.key == k) (Some e) (look_up k es)
+look_up k (e ∷ es) = if e.key == k then Some e else look_up k es
 
 abbrev pub holds : ℕ → Cache → Bool
 holds k c = is_some (look_up k c)
@@ -25,7 +25,7 @@ holds k c = is_some (look_up k c)
 
 abbrev pub if_meets : Interval → Option CacheEntry → Option CacheEntry
 if_meets i None = None
-if_meets i (Some e) = cond (meets_reading i e.reading) (Some e) None
+if_meets i (Some e) = if meets_reading i e.reading then Some e else None
 
 -- the entry that answers a key: its entry, if that meets the interval
 abbrev pub answering : Interval → ℕ → Cache → Option CacheEntry
@@ -34,7 +34,7 @@ answering i k c = if_meets i (look_up k c)
 -- the entries but that of a key
 abbrev pub without : ℕ → Cache → Cache
 without k [] = []
-without k (e ∷ es) = cond (e.key == k) es (e ∷ without k es)
+without k (e ∷ es) = if e.key == k then es else e ∷ without k es
 
 -- the last eight: what was used longest ago gives way to a ninth
 abbrev pub last_eight : Cache → Cache
@@ -51,7 +51,7 @@ is_later_than s (Some e) = nat_lt s e.reading.timestamp
 
 -- after the store answered for the key at time s: the answer goes in, unless the key's entry is later than s
 abbrev pub with_answer : ℕ → CacheEntry → Cache → Cache
-with_answer s e c = cond (is_later_than s (look_up e.key c)) c (used_latest e c)
+with_answer s e c = if is_later_than s (look_up e.key c) then c else used_latest e c
 
 -- A notice.
 
@@ -62,10 +62,10 @@ widened r p = record { value = r.value; timestamp = r.timestamp; promise = max r
 -- what a notice makes of a reading: a later one replaces it, of an equal one the larger promise is kept
 abbrev pub noticed : Reading → Reading → Reading
 noticed n r =
-    cond (nat_lt r.timestamp n.timestamp) n (cond (r.timestamp == n.timestamp) (widened r n.promise) r)
+    if nat_lt r.timestamp n.timestamp then n else if r.timestamp == n.timestamp then widened r n.promise else r
 
 -- after a notice: the key's entry, if there is one, stays in its place
 abbrev pub with_notice : Notice → Cache → Cache
 with_notice n [] = []
 with_notice n (e ∷ es) =
-    cond (e.key == n.key) (entry_of e.key (noticed n.reading e.reading) ∷ es) (e ∷ with_notice n es)
+    if e.key == n.key then entry_of e.key (noticed n.reading e.reading) ∷ es else e ∷ with_notice n es

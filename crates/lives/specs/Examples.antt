@@ -1,5 +1,5 @@
 -- Lives that show what the law says, and that it says something.
-use Rattle.std.specs.Prelude.{◌≡◌, ℕ, ◌+◌, max, cond, List, [], ◌∷◌, ◌++◌, map, Ok, Err, Result, nat_lt}
+use Rattle.std.specs.Prelude.{◌≡◌, ℕ, ◌+◌, max, if◌then◌else◌, List, [], ◌∷◌, ◌++◌, map, Ok, Err, Result, nat_lt}
 use Rattle.std.proofs.Common.{lit≤}
 use Rattle.std.specs.List.{ContainsAt as Has}
 use Rattle.snapshot.specs.Accounts.{Account}
@@ -123,7 +123,7 @@ one_too_late m r =
     record {
       value = r.value;
       timestamp = r.timestamp;
-      promise = cond (nat_lt r.promise m.last) (r.promise + 1) r.promise;
+      promise = if nat_lt r.promise m.last then r.promise + 1 else r.promise;
     }
 
 abbrev pub late_answer : Meaning → Result Reading Fault → Result Reading Fault

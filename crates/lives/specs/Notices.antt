@@ -1,5 +1,5 @@
 -- The notices that a commit raises: key by key, and for each key worker by worker.
-use Rattle.std.specs.Prelude.{ℕ, zero, suc, ◌-◌, ◌^◌, min, Bool, cond, List, [], ◌∷◌, ◌++◌, length, nat_lt}
+use Rattle.std.specs.Prelude.{ℕ, zero, suc, ◌-◌, ◌^◌, min, Bool, if◌then◌else◌, List, [], ◌∷◌, ◌++◌, length, nat_lt}
 use Rattle.snapshot.specs.Limits.{workers, waiting_notices}
 use Rattle.snapshot.specs.declared.account.Write.{Write}
 use Rattle.lives.specs.Caches.{Cache}
@@ -18,16 +18,15 @@ notice_of t w worker =
 -- a notice waits if there is room, and else is lost and counted
 abbrev pub raise : Notice → Notices → Notices
 raise n ns =
-    cond (nat_lt (length ns.waiting) waiting_notices)
-    (record { waiting = ns.waiting ++ (n ∷ []); lost = ns.lost })
-    (record { waiting = ns.waiting; lost = min (suc ns.lost) most_lost })
+    if nat_lt (length ns.waiting) waiting_notices then record { waiting = ns.waiting ++ (n ∷ []); lost = ns.lost }
+    else record { waiting = ns.waiting; lost = min (suc ns.lost) most_lost }
 
 -- one write, for the workers below n that hold its key
 abbrev pub raise_below : (ℕ → Bool) → ℕ → Write → ℕ → Notices → Notices
 raise_below holder t w zero ns = ns
 raise_below holder t w (suc n) ns =
     let before = raise_below holder t w n ns in
-    cond (holder n) (raise (notice_of t w n) before) before
+    if holder n then raise (notice_of t w n) before else before
 
 -- all writes
 abbrev pub raise_all : (ℕ → Cache → Bool) → (ℕ → Cache) → ℕ → List Write → Notices → Notices

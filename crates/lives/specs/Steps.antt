@@ -1,6 +1,6 @@
 -- One step of an engine: from its state and a call to the answer and the state after it. Each call's checks stand in the
 -- order of the refusals' numbers, and a refused call leaves the state as it is.
-use Rattle.std.specs.Prelude.{ℕ, zero, suc, Bool, true, cond, not, ◌&&◌, ◌||◌, List, [], ◌∷◌, map, length, Some, None, Ok, Err, Option, Result, ◌==◌, nat_le, nat_lt}
+use Rattle.std.specs.Prelude.{ℕ, zero, suc, Bool, true, if◌then◌else◌, not, ◌&&◌, ◌||◌, List, [], ◌∷◌, map, length, Some, None, Ok, Err, Option, Result, ◌==◌, nat_le, nat_lt}
 use Rattle.std.specs.List.{slice_get, remove}
 use Rattle.snapshot.specs.Accounts.{Account}
 use Rattle.snapshot.specs.Intervals.{joined_or_refused}
@@ -62,7 +62,7 @@ chain_fault p l k r = own_fault (record { refusal = r; layer = layer.Chain; plac
 
 -- refused unless the test passes
 unfoldable pub check : {X : Type 0} → Bool → EngineFault → Outcome X → Outcome X
-check ok f next = cond ok next (refused f)
+check ok f next = if ok then next else refused f
 
 -- the chain at a place, or a refusal
 unfoldable pub with_chain : {X : Type 0} → Option Chain → EngineFault → (Chain → Outcome X) → Outcome X
@@ -100,7 +100,7 @@ or_else (Some y) found next = found y
 -- the reading of a key that this leg has made
 abbrev pub own_reading : ℕ → ℕ → List LegReading → Option LegReading
 own_reading l k [] = None
-own_reading l k (r ∷ rs) = cond (r.leg == l && r.made.key == k) (Some r) (own_reading l k rs)
+own_reading l k (r ∷ rs) = if r.leg == l && r.made.key == k then Some r else own_reading l k rs
 
 -- of the legs below n none but l is open
 abbrev pub only_open : ℕ → (ℕ → LegState) → ℕ → Bool

@@ -1,5 +1,5 @@
 -- A new store has the meaning of one, and writes leave the meaning that a commit of depth 1 should, with room for it.
-use Rattle.std.proofs.Common.{◌≡◌, ℕ, zero, suc, ◌≤◌, Bool, true, false, cond, leb, List, [], ◌∷◌, length, replicate, Some, None, Option, refl, ap, ◌∙◌, subst, arith}
+use Rattle.std.proofs.Common.{◌≡◌, ℕ, zero, suc, ◌≤◌, Bool, true, false, if◌then◌else◌, leb, List, [], ◌∷◌, length, replicate, Some, None, Option, refl, ap, ◌∙◌, subst, arith}
 use Rattle.std.proofs.lemmas.Bool.{cond_both, le-leb}
 use Rattle.snapshot.specs.Accounts.{rising_from}
 use Rattle.snapshot.specs.Limits.{keys, is_key}
@@ -21,7 +21,7 @@ new_meaning =
     λ i. record {
       last = 0;
       capacity = keys;
-      kept = λ k. cond (is_key k) (repeated_everywhere (version_of 0 0) keys k i ∷ []) [];
+      kept = λ k. if is_key k then repeated_everywhere (version_of 0 0) keys k i ∷ [] else [];
     }
 
 -- Room: one version of each key.
@@ -38,7 +38,7 @@ room s =
 -- A commit.
 
 -- of one key, where a number that is no key is not written
-kept_newest : (key : Bool) (t : ℕ) (written : Option ℕ) (v : Version) → (key ≡ false → written ≡ None) → cond key (version_with t written v ∷ []) [] ≡ kept_with 1 t written (cond key (v ∷ []) [])
+kept_newest : (key : Bool) (t : ℕ) (written : Option ℕ) (v : Version) → (key ≡ false → written ≡ None) → (if key then version_with t written v ∷ [] else []) ≡ kept_with 1 t written (if key then v ∷ [] else [])
 kept_newest true t None v gone = refl
 kept_newest true t (Some x) v gone = refl
 kept_newest false t written v gone = rw (gone refl)
@@ -50,7 +50,7 @@ module _ (t : ℕ) (ws : List Write) (s : Newest) (vs : List Version) (rising : 
 
   kept_after : (k : ℕ) → (newest_meaning (newest_of t vs)).kept k ≡ kept_with 1 t (written_to k ws) (m.kept k)
   kept_after k =
-      ap (λ v. cond (is_key k) (v ∷ []) []) (put k)
+      ap (λ v. if is_key k then v ∷ [] else []) (put k)
       ∙ kept_newest (is_key k) t (written_to k ws) (version_at k s.versions) (λ past. unwritten_past k ws past (rising_keys 0 ws rising))
 
   pub with_writes_lem : newest_meaning (newest_of t vs) ≡ with_writes 1 t ws m

@@ -1,5 +1,5 @@
 -- What the store of the newest versions means, and the version that a key has after a commit.
-use Rattle.std.specs.Prelude.{ℕ, cond, List, [], ◌∷◌, Some, None, Option, slice_index_or}
+use Rattle.std.specs.Prelude.{ℕ, if◌then◌else◌, List, [], ◌∷◌, Some, None, Option, slice_index_or}
 use Rattle.snapshot.specs.Limits.{keys, is_key}
 use Rattle.store.specs.Meaning.{Meaning, version_of}
 use Rattle.store.specs.declared.version.Version.{Version}
@@ -15,7 +15,7 @@ newest_meaning s =
     record {
       last = s.last;
       capacity = keys;
-      kept = λ k. cond (is_key k) (version_at k s.versions ∷ []) [];
+      kept = λ k. if is_key k then version_at k s.versions ∷ [] else [];
     }
 
 -- the version of a key after a commit at t that wrote this to it, or nothing

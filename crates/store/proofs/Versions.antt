@@ -1,5 +1,5 @@
 -- Lists of versions: which of them rise, which version they hold at a time, what newest_at answers, and how many are outdated.
-use Rattle.std.proofs.Common.{◌≡◌, ℕ, ◌+◌, ◌<◌, ◌≤◌, min, cond, leb, List, [], ◌∷◌, ◌++◌, length, get_or, take, drop, Some, None, Option, refl, ap, ⊎_elim, append_assoc, arith, MatchOption}
+use Rattle.std.proofs.Common.{◌≡◌, ℕ, ◌+◌, ◌<◌, ◌≤◌, min, if◌then◌else◌, leb, List, [], ◌∷◌, ◌++◌, length, get_or, take, drop, Some, None, Option, refl, ap, ⊎_elim, append_assoc, arith, MatchOption}
 use Rattle.std.specs.Option.{option_or}
 use Rattle.std.specs.List.{ContainsAt as Has, AllByRecursion}
 use Rattle.std.proofs.ByRecursion.{All-append, All-drop, all-has, All-weaker, has_append_right}
@@ -176,7 +176,7 @@ shows_first s last v (w ∷ vs) le later r up =
 abbrev pub NewestMeans : ℕ → ℕ → List Version → Option Reading → Type 0
 NewestMeans s last vs o = MatchOption o (Later s vs) (Shows s last vs)
 
-newest_step : (s last : ℕ) (v : Version) (vs : List Version) (o : Option Reading) → Rises (v ∷ vs) → UpTo last (v ∷ vs) → NewestMeans s last vs o → NewestMeans s last (v ∷ vs) (option_or o (cond (leb v.timestamp s) (Some (reading_of v (end_before vs last))) None))
+newest_step : (s last : ℕ) (v : Version) (vs : List Version) (o : Option Reading) → Rises (v ∷ vs) → UpTo last (v ∷ vs) → NewestMeans s last vs o → NewestMeans s last (v ∷ vs) (option_or o (if leb v.timestamp s then Some (reading_of v (end_before vs last)) else None))
 newest_step s last v vs None r up later =
     cond_both (leb v.timestamp s) _ _ (NewestMeans s last (v ∷ vs))
     (λ e. shows_first s last v vs (leb-true _ _ e) later r up)

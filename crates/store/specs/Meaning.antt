@@ -1,5 +1,5 @@
 -- What a store means, and what its four calls answer and leave.
-use Rattle.std.specs.Prelude.{ℕ, zero, suc, ◌+◌, ◌-◌, min, max, Bool, false, cond, ◌&&◌, ◌||◌, List, [], ◌∷◌, ◌++◌, length, drop, Some, None, Ok, Err, Option, Result, ◌==◌, nat_le}
+use Rattle.std.specs.Prelude.{ℕ, zero, suc, ◌+◌, ◌-◌, min, max, Bool, false, if◌then◌else◌, ◌&&◌, ◌||◌, List, [], ◌∷◌, ◌++◌, length, drop, Some, None, Ok, Err, Option, Result, ◌==◌, nat_le}
 use Rattle.std.specs.Option.{ok_or, option_or}
 use Rattle.std.specs.Result.{result_and}
 use Rattle.snapshot.specs.Accounts.{rising_from}
@@ -24,7 +24,7 @@ version_of t x = record { timestamp = t; value = x }
 
 -- a new store keeps of each key one version, value 0 at time 0
 abbrev pub new_store : ℕ → Meaning
-new_store c = record { last = 0; capacity = c; kept = λ k. cond (is_key k) (version_of 0 0 ∷ []) [] }
+new_store c = record { last = 0; capacity = c; kept = λ k. (if is_key k then version_of 0 0 ∷ [] else []) }
 
 -- a store's faults: those of a question name its key, those of a commit name nothing
 abbrev pub question_fault : Refusal → ℕ → Fault
@@ -48,11 +48,11 @@ end_before (v ∷ vs) last = v.timestamp - 1
 abbrev pub newest_at : ℕ → ℕ → List Version → Option Reading
 newest_at s last [] = None
 newest_at s last (v ∷ vs) =
-    option_or (newest_at s last vs) (cond (nat_le v.timestamp s) (Some (reading_of v (end_before vs last))) None)
+    option_or (newest_at s last vs) (if nat_le v.timestamp s then Some (reading_of v (end_before vs last)) else None)
 
 -- there is such a key and such a time
 abbrev pub in_range : ℕ → ℕ → Result (Unit {0}) Fault
-in_range k s = cond (is_key k && is_time s) (Ok tt) (Err (question_fault OutOfRange k))
+in_range k s = if is_key k && is_time s then Ok tt else Err (question_fault OutOfRange k)
 
 abbrev pub version_answer : Meaning → ℕ → ℕ → Result Reading Fault
 version_answer m k s =
@@ -67,16 +67,17 @@ fit_writes ws = nat_le 1 (length ws) && nat_le (length ws) write_keys && rising_
 -- the larger of the clock reading and last + 1; refused for a clock reading at the open end or above, and where no time is left
 abbrev pub issued : ℕ → ℕ → Result ℕ Fault
 issued clock last =
-    cond (nat_le open_end clock) (Err (store_fault ClockTooHigh))
-    (cond (nat_le open_end (last + 1)) (Err (store_fault NoTimeLeft)) (Ok (max clock (last + 1))))
+    if nat_le open_end clock then Err (store_fault ClockTooHigh)
+    else if nat_le open_end (last + 1) then Err (store_fault NoTimeLeft)
+    else Ok (max clock (last + 1))
 
 abbrev pub timestamp_for : ℕ → List Write → ℕ → Result ℕ Fault
-timestamp_for clock ws last = cond (fit_writes ws) (issued clock last) (Err (store_fault UnfitWrites))
+timestamp_for clock ws last = if fit_writes ws then issued clock last else Err (store_fault UnfitWrites)
 
 -- the value that the writes give a key
 abbrev pub written_to : ℕ → List Write → Option ℕ
 written_to k [] = None
-written_to k (w ∷ ws) = cond (w.key == k) (Some w.value) (written_to k ws)
+written_to k (w ∷ ws) = if w.key == k then Some w.value else written_to k ws
 
 -- the newest versions, as many as the depth
 abbrev pub newest : ℕ → List Version → List Version
@@ -103,7 +104,7 @@ versions_kept m = versions_below keys m.kept
 -- refused where more versions would be kept than there is room for
 abbrev pub if_room : ℕ → List Write → Meaning → Result ℕ Fault → Result ℕ Fault
 if_room depth ws m (Ok t) =
-    cond (nat_le (versions_kept (with_writes depth t ws m)) m.capacity) (Ok t) (Err (store_fault CapacityExceeded))
+    if nat_le (versions_kept (with_writes depth t ws m)) m.capacity then Ok t else Err (store_fault CapacityExceeded)
 if_room depth ws m (Err e) = Err e
 
 abbrev pub commit_answer : ℕ → ℕ → List Write → Meaning → Result ℕ Fault
@@ -127,7 +128,7 @@ some_up_to h (v ∷ vs) = nat_le v.timestamp h || some_up_to h vs
 -- how many versions are older than the newest one not above h; none without such a one
 abbrev pub outdated : ℕ → List Version → ℕ
 outdated h [] = 0
-outdated h (v ∷ vs) = cond (some_up_to h vs) (suc (outdated h vs)) 0
+outdated h (v ∷ vs) = if some_up_to h vs then suc (outdated h vs) else 0
 
 -- each key drops its outdated versions
 abbrev pub pruned_at : ℕ → Meaning → Meaning

@@ -1,5 +1,5 @@
 -- Worked cases on intervals and stores: what each comes to, one line a case.
-use Rattle.std.specs.Prelude.{◌≡◌, ℕ, cond, List, [], ◌∷◌, length, Ok, Err, Result}
+use Rattle.std.specs.Prelude.{◌≡◌, ℕ, if◌then◌else◌, List, [], ◌∷◌, length, Ok, Err, Result}
 use Rattle.std.specs.List.{AllByRecursion}
 use Rattle.snapshot.specs.Intervals.{from_to, meets_reading, narrowed, joined_or_refused}
 use Rattle.snapshot.specs.Refusals.{number_of}
@@ -28,7 +28,7 @@ abbrev narrows : ℕ → ℕ → Outcome
 narrows t p =
     let r : Reading = record { value = 0; timestamp = t; promise = p } in
     let n = narrowed (from_to 80 120) r in
-    cond (meets_reading (from_to 80 120) r) (interval n.low n.high) apart
+    if meets_reading (from_to 80 120) r then interval n.low n.high else apart
 
 abbrev join_outcome : Result Interval Refusal → Outcome
 join_outcome (Ok i) = interval i.low i.high
