@@ -1,11 +1,10 @@
 -- Each turn puts the next write's version, and a key in range has a place.
-use Rattle.std.proofs.Common.{◌+◌, ◌<◌, drop, slice_index_or, slice_set, sym, ap, ◌∙◌, arith}
+use Rattle.std.proofs.Common.{◌<◌, sym, ap, ◌∙◌, arith}
 use Rattle.std.proofs.ByRecursion.{All-get_or}
-use Rattle.std.proofs.lemmas.List.{at_drop_more, at_drop_all}
+use Rattle.std.proofs.lemmas.List.{at_drop_all}
 use Rattle.snapshot.specs.Accounts.{zero_write}
 use Rattle.snapshot.specs.Limits.{keys}
 use Rattle.newest_store.specs.Newest.{version_at}
-use Rattle.store.specs.Meaning.{version_of}
 use Rattle.store.proofs.Writes.{fit_rises, rising_keys}
 use Rattle.newest_store.proofs.Putting.{put_all, put_gives}
 use Rattle.newest_store.proofs.newest.put_all.Goals as goal
@@ -14,16 +13,6 @@ pub bounds-versions-from : goal.bounds-versions-from
 bounds-versions-from c =
     let ws = c.args.update.writes.now in
     omega (arith, c.from.ensures, All-get_or (λ w. w.key < keys) ws c.loop-write.write-index zero_write c.loop-write-test.true (rising_keys 0 ws (fit_rises ws c.args.update.fit)))
-
-pub loop-write-preserved : goal.loop-write-preserved
-loop-write-preserved c =
-    let t = c.args.update.timestamp in
-    let ws = c.args.update.writes.now in
-    let i = c.loop-write.write-index in
-    let w = slice_index_or ws i zero_write in
-    ap (λ k. put_all t (drop (i + 1) ws) (slice_set c.loop-write.versions k (version_of t w.value))) c.from.ensures
-    ∙ sym (at_drop_more (λ xs. put_all t xs c.loop-write.versions) ws i zero_write c.loop-write-test.true)
-    ∙ c.loop-write.invariant
 
 pub returns : goal.returns
 returns c k =

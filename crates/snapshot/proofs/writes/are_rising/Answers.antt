@@ -1,8 +1,7 @@
 -- Two looks at the writes: whether each key is below the next, and whether all are in range.
-use Rattle.std.proofs.Common.{rules, ◌≡◌, true, false, ◌&&◌, MatchBool, length, ℕ, ◌<◌, slice_index_or, ◌^◌, sym, ap, subst, ◌∙◌}
+use Rattle.std.proofs.Common.{rules, ◌≡◌, true, false, ◌&&◌, MatchBool, length, ℕ, ◌<◌, slice_index_or, sym, ap, ◌∙◌}
 use Rattle.std.specs.List.{IsAllAdjacentAnswer, HoldsAt}
 use Rattle.std.proofs.lemmas.List.Sorted.{answers_always}
-use Rattle.std.proofs.lemmas.List.Elements.{recursion_from_All}
 use Rattle.snapshot.specs.Accounts.{all}
 use Rattle.snapshot.specs.declared.account.Write.{Write}
 use Rattle.snapshot.proofs.Alls.{all_by_each}
@@ -18,12 +17,6 @@ returns-then-is_sorted_by-clause-value c =
     all_by_each has_fit_key ws c.all.result each
     ∙ sym (ap (λ b. b && all has_fit_key ws) c.if-is_sorted_by.true)
     ∙ rising_by_two_looks ws c.is_sorted_by.result sorted
-
-pub returns-then-is_sorted_by-clause-fits : goal.returns-then-is_sorted_by-clause-fits
-returns-then-is_sorted_by-clause-fits c = λ e.
-    let ws = c.args.writes.now in
-    let each : MatchBool c.all.result ((k : ℕ) (d : Write) → k < length ws → (slice_index_or ws k d).value < 2 ^ 32) ((k : ℕ) × (k < length ws) × HoldsAt (λ w. has_fit_key w ≡ false) ws k) = search rules in
-    recursion_from_All (λ w. w.value < 2 ^ 32) ws (subst (λ r. MatchBool r ((k : ℕ) (d : Write) → k < length ws → (slice_index_or ws k d).value < 2 ^ 32) ((k : ℕ) × (k < length ws) × HoldsAt (λ w. has_fit_key w ≡ false) ws k)) e each)
 
 pub returns-else-is_sorted_by-clause-value : goal.returns-else-is_sorted_by-clause-value
 returns-else-is_sorted_by-clause-value c =

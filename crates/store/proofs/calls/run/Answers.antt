@@ -1,28 +1,9 @@
 -- Each turn answers the next call; the room that was reserved is enough for all.
-use Rattle.std.proofs.Common.{◌++◌, vec_items, sym, refl, ap, ◌∙◌, arith}
+use Rattle.std.proofs.Common.{◌++◌, vec_items, sym, refl, ap, ◌∙◌}
 use Rattle.store.specs.Calls.{answers_of}
 use Rattle.store.proofs.Keeping.{calls_keep_laws}
-use Rattle.store.proofs.Runs.{answers_more, answers_all, after_more, after_all_calls}
+use Rattle.store.proofs.Runs.{answers_all, after_all_calls}
 use Rattle.store.proofs.calls.run.Goals as goal
-
-pub loop-call-init : goal.loop-call-init
-loop-call-init g c = (refl, refl, omega (arith, c.in_ok-reserve.ensures.ok))
-
-pub push_reserved-requires : goal.push_reserved-requires
-push_reserved-requires g c = omega (arith, c.loop-call.invariant.2, c.loop-call-test.true)
-
-pub loop-call-preserved : goal.loop-call-preserved
-loop-call-preserved g c =
-    let depth = g.S.Store.depth in
-    let calls = c.args.calls.now in
-    let i = c.loop-call.call-index in
-    let lt = c.loop-call-test.true in
-    let m = g.S.Reads.meaning c.loop-call.store in
-    let left = c.perform-answer.ensures.after in (
-      answers_more depth calls i _ lt m _ (vec_items c.loop-call.answers) _ _ c.push_reserved.ensures.items c.perform-answer.ensures.answer left ∙ c.loop-call.invariant.0,
-      after_more depth calls i _ lt m _ left ∙ c.loop-call.invariant.1,
-      omega (arith, c.loop-call.invariant.2, c.push_reserved.ensures.len, c.push_reserved.ensures.capacity),
-    )
 
 pub returns : goal.returns
 returns g c =
