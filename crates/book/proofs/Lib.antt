@@ -1,4 +1,5 @@
 pub mod Changes
+pub mod Tests
 pub mod Placing
 pub mod Packing
 pub mod Decoding
@@ -8,5 +9,4 @@ pub mod Records
 pub mod RoundTrip
 pub mod Writing
 pub mod Reading
-pub mod Heads
 pub mod Listings

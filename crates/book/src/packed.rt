@@ -1,8 +1,9 @@
 // Records of a fixed size, packed one after another.
 ghost use Rattle.std.specs.Prelude.{◌≡◌, ℕ, ◌+◌, ◌*◌, ◌≤◌, List, length, drop};
 ghost use Rattle.std.specs.List.{flat_map};
+ghost use Rattle.snapshot.specs.Limits.{chain_readings, write_keys};
 ghost use Rattle.book.specs.Bytes.{placed, records_from};
-ghost use Rattle.book.specs.Format.{reading_bytes, reading_from, reading_size, write_bytes, write_from, write_size};
+ghost use Rattle.book.specs.Format.{reading_bytes, reading_from, reading_size, size_of, write_bytes, write_from, write_size};
 ghost use Rattle.std.proofs.Common.{rules};
 
 use crate::bytes::{put_u32, put_u64, u32_at, u64_at};
@@ -14,6 +15,14 @@ pub(crate) const READING_SIZE: usize = 22;
 pub(crate) const WRITE_SIZE: usize = 5;
 
 pub(crate) const HEAD_SIZE: usize = 28;
+
+// How many bytes an account of so many readings and writes has.
+pub(crate) fn account_size(readings: usize, writes: usize) -> usize
+    requires { (readings ≤ chain_readings) × (writes ≤ write_keys) }
+    ensures { result ≡ size_of readings writes }
+{
+    HEAD_SIZE + 1 + READING_SIZE * readings + WRITE_SIZE * writes
+}
 
 // A record that has always the same number of bytes.
 pub(crate) trait Packed: Sized {

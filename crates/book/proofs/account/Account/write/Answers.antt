@@ -2,17 +2,16 @@
 use Rattle.std.proofs.Common.{◌≡◌, ◌<◌, ◌≤◌, ◌++◌, length, drop, Ok, Err, sym, refl, ap, ◌∙◌, zero-add, arith}
 use Rattle.std.proofs.lemmas.Bool.{false≢true}
 use Rattle.book.specs.Calls.{faulted}
-use Rattle.book.specs.Format.{bytes_of, whole}
-use Rattle.book.proofs.RoundTrip.{takes_its_size}
+use Rattle.book.specs.Format.{bytes_of, told}
 use Rattle.book.proofs.Writing.{written_short, written_whole, buffer_short, buffer_whole, reads_back_anywhere}
-use Rattle.book.proofs.writer.write_account.Goals as goal
+use Rattle.book.proofs.account.Account.write.Goals as goal
 
 pub returns-then-buffer-size : goal.returns-then-buffer-size
 returns-then-buffer-size c =
-    let a = whole c.args.interval c.args.timestamp c.args.readings.now c.args.writes.now in
+    let a = told c.args.self.now in
     let old = c.args.buffer.now in
     let law = sym c.if-not-is_lawful.ensures.value in
-    let short : length old < length (bytes_of a) = omega (arith, takes_its_size a, c.account_size-size.ensures, c.if-buffer-size.true) in
+    let short : length old < length (bytes_of a) = omega (arith, c.size-size.ensures, c.if-buffer-size.true) in
     record {
       value = ap Err c.new-then-buffer-size.ensures ∙ sym (ap (faulted 0) (written_short a law (length old) short));
       after = buffer_short a law old short;
@@ -21,14 +20,13 @@ returns-then-buffer-size c =
 
 pub returns : goal.returns
 returns c =
-    let a = whole c.args.interval c.args.timestamp c.args.readings.now c.args.writes.now in
+    let a = told c.args.self.now in
     let old = c.args.buffer.now in
     let law = sym c.if-not-is_lawful.ensures.value in
-    let size : c.account_size-size.result ≡ length (bytes_of a) = c.account_size-size.ensures ∙ sym (takes_its_size a) in
-    let long : length (bytes_of a) ≤ length old = omega (arith, size, c.if-buffer-size.false) in
+    let long : length (bytes_of a) ≤ length old = omega (arith, c.size-size.ensures, c.if-buffer-size.false) in
     record {
-      value = ap Ok size ∙ sym (ap (faulted 0) (written_whole a law (length old) long));
-      after = c.put_account.ensures
+      value = ap Ok c.size-size.ensures ∙ sym (ap (faulted 0) (written_whole a law (length old) long));
+      after = c.put.ensures
           ∙ ap (λ n. bytes_of a ++ drop n old) (zero-add (length (bytes_of a)))
           ∙ sym (buffer_whole a law old long);
       back = λ _. reads_back_anywhere a law (c.if-not-is_lawful.ensures.fits refl);
