@@ -1,15 +1,20 @@
 // Tests of the book's writer and reader: what is written, every refusal with its number and place, and the order of checks.
+use book::account::Account;
 use book::listing::{listing_text, read_book};
 use book::reader::read_account;
 use book::sum::last_byte;
-use book::writer::write_account;
-use snapshot::account::{ChainReading, NO_READING, NO_WRITE, Reading, Write};
+use snapshot::account::{AccountHead, ChainReading, NO_READING, NO_WRITE, Reading, Write};
 use snapshot::fault::{BookFault, Layer};
 use snapshot::interval::Interval;
 use std::process::Abort;
 use std::test::Fail;
 
 const OPEN_END: u64 = 281_474_976_710_656;
+
+const ALL_TIMES: Interval = Interval {
+    low: 0,
+    high: OPEN_END,
+};
 
 // The bytes of the account with no readings and no writes: mark and counts, low, high, timestamp, last byte.
 const SHORTEST: [u8; 29] = *b"\xC3\x3C\x00\x00\
@@ -73,18 +78,17 @@ fn lawful_sample() -> Sample {
     }
 }
 
-fn write(account: &Sample, buffer: &mut [u8]) -> Result<usize, BookFault> {
-    let interval = Interval {
-        low: account.low,
-        high: account.high,
+fn write(sample: &Sample, buffer: &mut [u8]) -> Result<usize, BookFault> {
+    let account = Account {
+        interval: Interval {
+            low: sample.low,
+            high: sample.high,
+        },
+        timestamp: sample.timestamp,
+        readings: &sample.readings,
+        writes: &sample.writes,
     };
-    write_account(
-        interval,
-        account.timestamp,
-        &account.readings,
-        &account.writes,
-        buffer,
-    )
+    account.write(buffer)
 }
 
 // The call was refused by the book, with this number and byte place, and names no place, leg or key.
@@ -114,12 +118,13 @@ fn refused<T: Drop>(
 #[test]
 fn shortest_account_is_written(rt: HostRuntime) {
     let mut buffer = [7u8; 31];
-    let interval = Interval {
-        low: 0,
-        high: OPEN_END,
+    let account = Account {
+        interval: ALL_TIMES,
+        timestamp: 0,
+        readings: &[],
+        writes: &[],
     };
-    let answer = write_account(interval, 0, &[], &[], &mut buffer);
-    assert_eq!(rt; answer.ok(), Some(29));
+    assert_eq!(rt; account.write(&mut buffer).ok(), Some(29));
     assert_eq!(rt; &buffer[0..29], &SHORTEST[..]);
     assert_eq!(rt; &buffer[29..31], &[7, 7][..]);
 }
@@ -146,11 +151,14 @@ fn longest_account_comes_back(rt: HostRuntime) -> Result<(), Fail> {
         held(63),
     ];
     let interval = Interval { low: 8, high: 8 };
+    let account = Account {
+        interval,
+        timestamp: 10,
+        readings: &readings,
+        writes: &writes,
+    };
     let mut buffer = [7u8; 774];
-    assert_eq!(rt;
-        write_account(interval, 10, &readings, &writes, &mut buffer).ok(),
-        Some(773)
-    );
+    assert_eq!(rt; account.write(&mut buffer).ok(), Some(773));
     assert_eq!(rt; buffer[773], 7);
     let mut read_readings = [NO_READING; 32];
     let mut read_writes = [NO_WRITE; 8];
@@ -158,14 +166,14 @@ fn longest_account_comes_back(rt: HostRuntime) -> Result<(), Fail> {
         return Err(Fail::new("not read"));
     };
     assert_eq!(rt; read.end, 773);
-    assert_eq!(rt; read.head.interval, interval);
     assert_eq!(rt;
-        [
-            read.head.timestamp as usize,
-            read.head.readings,
-            read.head.writes,
-        ],
-        [10, 32, 8]
+        read.head,
+        AccountHead {
+            interval,
+            timestamp: 10,
+            readings: 32,
+            writes: 8,
+        }
     );
     assert!(rt; read_readings == readings);
     assert!(rt; read_writes == writes);
@@ -286,43 +294,45 @@ fn unlawful_writes_are_not_written(rt: HostRuntime) -> Result<(), Fail> {
 
 #[test]
 fn unlawful_sizes_are_not_written(rt: HostRuntime) -> Result<(), Fail> {
-    let all = Interval {
-        low: 0,
-        high: OPEN_END,
+    let empty = Account {
+        interval: ALL_TIMES,
+        timestamp: 0,
+        readings: &[],
+        writes: &[],
     };
     let mut buffer = [7u8; 1000];
-    refused(
-        &rt,
-        write_account(
-            Interval { low: 0, high: 0 },
-            0,
-            &[NO_READING; 33],
-            &[],
-            &mut buffer,
-        ),
-        21,
-        0,
-    )?;
-    let writes = [
-        held(0),
-        held(1),
-        held(2),
-        held(3),
-        held(4),
-        held(5),
-        held(6),
-        held(7),
-        held(8),
-    ];
-    refused(&rt, write_account(all, 1, &[], &writes, &mut buffer), 21, 0)?;
-    // a timestamp without writes, and a promise at the open end
-    refused(&rt, write_account(all, 1, &[], &[], &mut buffer), 21, 0)?;
-    refused(
-        &rt,
-        write_account(all, 0, &[made(0, 0, 0, 0, OPEN_END)], &[], &mut buffer),
-        21,
-        0,
-    )?;
+    let many_readings = Account {
+        interval: Interval { low: 0, high: 0 },
+        readings: &[NO_READING; 33],
+        ..empty
+    };
+    refused(&rt, many_readings.write(&mut buffer), 21, 0)?;
+    let many_writes = Account {
+        timestamp: 1,
+        writes: &[
+            held(0),
+            held(1),
+            held(2),
+            held(3),
+            held(4),
+            held(5),
+            held(6),
+            held(7),
+            held(8),
+        ],
+        ..empty
+    };
+    refused(&rt, many_writes.write(&mut buffer), 21, 0)?;
+    let timestamp_without_writes = Account {
+        timestamp: 1,
+        ..empty
+    };
+    refused(&rt, timestamp_without_writes.write(&mut buffer), 21, 0)?;
+    let promise_at_the_open_end = Account {
+        readings: &[made(0, 0, 0, 0, OPEN_END)],
+        ..empty
+    };
+    refused(&rt, promise_at_the_open_end.write(&mut buffer), 21, 0)?;
     assert!(rt; buffer == [7u8; 1000]);
     Ok(())
 }
@@ -372,16 +382,15 @@ fn account_comes_back_from_any_place(rt: HostRuntime) -> Result<(), Fail> {
     let Ok(read) = read_account(&book, 100, &mut readings, &mut writes) else {
         return Err(Fail::new("not read"));
     };
-    let interval = Interval { low: 20, high: 30 };
     assert_eq!(rt; read.end, 205);
-    assert_eq!(rt; read.head.interval, interval);
     assert_eq!(rt;
-        [
-            read.head.timestamp as usize,
-            read.head.readings,
-            read.head.writes,
-        ],
-        [51, 3, 2]
+        read.head,
+        AccountHead {
+            interval: Interval { low: 20, high: 30 },
+            timestamp: 51,
+            readings: 3,
+            writes: 2,
+        }
     );
     let [r0, r1, r2] = good.readings;
     let [w0, w1] = good.writes;
