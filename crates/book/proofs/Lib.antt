@@ -2,7 +2,6 @@ pub mod Changes
 pub mod Tests
 pub mod Placing
 pub mod Packing
-pub mod Decoding
 pub mod Parts
 pub mod Numbers
 pub mod Records

@@ -2,7 +2,6 @@
 #![tactic(auto)]
 
 pub mod account;
-mod bytes;
 mod lawful;
 pub mod listing;
 mod packed;

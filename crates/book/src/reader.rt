@@ -8,10 +8,10 @@ ghost use Rattle.book.specs.Format.{account_from, bytes_of, counts_in, framed, f
 ghost use Rattle.book.specs.Theorems.{AcceptedOnly, IsWritten};
 
 use crate::account::Account;
-use crate::bytes::u64_at;
-use crate::packed::{HEAD_SIZE, READING_SIZE, account_size, get_all};
+use crate::packed::{HEAD_SIZE, account_size, unpack_all, writes_place};
 use crate::sum::last_byte;
 use crate::writer::MARK;
+use byteorder::{BigEndian, ByteOrder};
 use snapshot::account::{AccountHead, ChainReading, NO_READING, NO_WRITE, Write};
 use snapshot::fault::{BookFault, Refusal};
 use snapshot::interval::Interval;
@@ -162,15 +162,15 @@ fn decode(bytes: &[u8], counts: Counts) -> Stored
 {
     let mut readings = [NO_READING; CHAIN_READINGS];
     let mut writes = [NO_WRITE; WRITE_KEYS];
-    let behind = HEAD_SIZE + READING_SIZE * counts.readings;
-    get_all(bytes, HEAD_SIZE, &mut readings[..counts.readings]);
-    get_all(bytes, behind, &mut writes[..counts.writes]);
+    unpack_all(&bytes[HEAD_SIZE..], &mut readings[..counts.readings]);
+    let behind = writes_place(counts.readings);
+    unpack_all(&bytes[behind..], &mut writes[..counts.writes]);
     Stored {
         interval: Interval {
-            low: u64_at(bytes, 4),
-            high: u64_at(bytes, 12),
+            low: BigEndian::read_u64(&bytes[4..]),
+            high: BigEndian::read_u64(&bytes[12..]),
         },
-        timestamp: u64_at(bytes, 20),
+        timestamp: BigEndian::read_u64(&bytes[20..]),
         readings,
         writes,
         counts,

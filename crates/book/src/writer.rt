@@ -1,15 +1,15 @@
 // Writing an account into a buffer of the caller's.
 ghost use Rattle.std.specs.Prelude.{◌≡◌, ◌≤◌, true, length, is_ok};
 ghost use Rattle.snapshot.specs.Accounts.{lawful};
-ghost use Rattle.book.specs.Bytes.{placed};
+ghost use Rattle.book.specs.Bytes.{overwritten};
 ghost use Rattle.book.specs.Calls.{buffer_after, faulted, writing};
 ghost use Rattle.book.specs.Format.{bytes_of, head_bytes, head_size, told};
 ghost use Rattle.book.specs.Theorems.{ReadsBackAnywhere};
 
 use crate::account::Account;
-use crate::bytes::{put_bytes, put_u64};
-use crate::packed::{HEAD_SIZE, put_all};
+use crate::packed::{HEAD_SIZE, pack_all, writes_place};
 use crate::sum::last_byte;
+use byteorder::{BigEndian, ByteOrder};
 use snapshot::fault::{BookFault, Refusal};
 
 // The two bytes with which an account begins.
@@ -39,26 +39,29 @@ impl Account<'_> {
     fn put(&self, buffer: &mut [u8])
         requires lawfully { lawful (told self.now) ≡ true }
         requires fits { length (bytes_of (told self.now)) ≤ length buffer.old }
-        ensures { buffer.new ≡ placed 0 (bytes_of (told self.now)) buffer.old }
+        ensures { buffer.new ≡ overwritten (bytes_of (told self.now)) buffer.old }
     {
         self.put_head(buffer);
-        let place = put_all(self.readings, buffer, HEAD_SIZE);
-        let last = put_all(self.writes, buffer, place);
-        let sum = last_byte(&buffer[0..last]);
-        buffer[last] = sum;
+        pack_all(self.readings, &mut buffer[HEAD_SIZE..]);
+        pack_all(
+            self.writes,
+            &mut buffer[writes_place(self.readings.len())..],
+        );
+        let last = self.size() - 1;
+        buffer[last] = last_byte(&buffer[..last]);
     }
 
     // Puts the mark, the counts, low, high and timestamp before the readings.
     fn put_head(&self, buffer: &mut [u8])
         requires lawfully { lawful (told self.now) ≡ true }
         requires fits { head_size ≤ length buffer.old }
-        ensures { buffer.new ≡ placed 0 (head_bytes (told self.now)) buffer.old }
+        ensures { buffer.new ≡ overwritten (head_bytes (told self.now)) buffer.old }
     {
-        let counts = [self.readings.len() as u8, self.writes.len() as u8];
-        put_bytes(buffer, 0, &MARK);
-        put_bytes(buffer, 2, &counts);
-        put_u64(buffer, 4, self.interval.low);
-        put_u64(buffer, 12, self.interval.high);
-        put_u64(buffer, 20, self.timestamp);
+        buffer[..2].copy_from_slice(&MARK);
+        buffer[2] = self.readings.len() as u8;
+        buffer[3] = self.writes.len() as u8;
+        BigEndian::write_u64(&mut buffer[4..], self.interval.low);
+        BigEndian::write_u64(&mut buffer[12..], self.interval.high);
+        BigEndian::write_u64(&mut buffer[20..], self.timestamp);
     }
 }

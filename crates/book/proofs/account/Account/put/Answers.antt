@@ -1,15 +1,20 @@
--- Head, readings, writes and last byte, each placed where the one before ends.
-use Rattle.book.specs.Format.{told}
-use Rattle.book.proofs.Writing.{account_placed}
+-- Head, readings, writes and last byte, one after the other.
+use Rattle.std.proofs.Common.{◌≡◌, ◌++◌, length, refl, arith}
+use Rattle.std.proofs.lemmas.List.{length-append}
+use Rattle.std.specs.List.{flat_map}
+use Rattle.book.specs.Format.{reading_bytes, write_bytes, head_bytes, told}
+use Rattle.book.proofs.Placing.{part_more}
+use Rattle.book.proofs.Records.{length_readings}
+use Rattle.book.proofs.Writing.{last_written}
 use Rattle.book.proofs.account.Account.put.Goals as goal
 
 pub returns : goal.returns
 returns c =
-    account_placed (told c.args.self.now) c.args.buffer.now c.requires.fits c.put_all-place.result c.put_all-last.result
-    c.last_byte-sum.result
-    c.put_head.ensures
-    c.put_all-place.ensures.bytes
-    c.put_all-place.ensures.place
-    c.put_all-last.ensures.bytes
-    c.put_all-last.ensures.place
-    c.last_byte-sum.ensures.value
+    let a = told c.args.self.now in
+    let old = c.args.buffer.now in
+    let head = head_bytes a in
+    let rs = flat_map reading_bytes a.readings in
+    let place : c.writes_place.result ≡ length (head ++ rs) = omega (arith, c.writes_place.ensures, length_readings a.readings) in
+    let one = part_more old head 28 refl c.put_head.ensures rs c.pack_all.ensures in
+    let two = part_more old (head ++ rs) c.writes_place.result place one (flat_map write_bytes a.writes) c.pack_all-2.ensures in
+    last_written a old c.requires.fits _ c.last_byte.result two (omega (arith, c.size-last.ensures)) c.last_byte.ensures.value

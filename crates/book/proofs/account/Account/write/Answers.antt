@@ -26,8 +26,6 @@ returns c =
     let long : length (bytes_of a) ≤ length old = omega (arith, c.size-size.ensures, c.if-buffer-size.false) in
     record {
       value = ap Ok c.size-size.ensures ∙ sym (ap (faulted 0) (written_whole a law (length old) long));
-      after = c.put.ensures
-          ∙ ap (λ n. bytes_of a ++ drop n old) (zero-add (length (bytes_of a)))
-          ∙ sym (buffer_whole a law old long);
+      after = c.put.ensures ∙ sym (buffer_whole a law old long);
       back = λ _. reads_back_anywhere a law (c.if-not-is_lawful.ensures.fits refl);
     }
