@@ -1,10 +1,9 @@
 // Records of a fixed size, packed one after another, and where the parts of an account begin.
-ghost use Rattle.std.specs.Prelude.{◌≡◌, ℕ, ◌+◌, ◌*◌, ◌≤◌, List, length};
+ghost use Rattle.std.specs.Prelude.{◌≡◌, ℕ, ◌+◌, ◌*◌, ◌≤◌, List, length, refl};
 ghost use Rattle.std.specs.List.{flat_map};
 ghost use Rattle.snapshot.specs.Limits.{chain_readings, write_keys};
 ghost use Rattle.book.specs.Bytes.{overwritten, records_from};
 ghost use Rattle.book.specs.Format.{head_size, reading_bytes, reading_from, reading_size, size_of, write_bytes, write_from, write_size};
-ghost use Rattle.std.proofs.Common.{rules};
 
 use byteorder::{BigEndian, ByteOrder};
 use snapshot::account::{ChainReading, Reading, Write};
@@ -58,7 +57,7 @@ impl Packed for ChainReading {
 
     ghost unpacked = { reading_from };
 
-    ghost sized = { Prim.search rules };
+    ghost sized = { λ _. refl };
 
     const SIZE: usize = 22;
 
@@ -90,7 +89,7 @@ impl Packed for Write {
 
     ghost unpacked = { write_from };
 
-    ghost sized = { Prim.search rules };
+    ghost sized = { λ _. refl };
 
     const SIZE: usize = 5;
 

@@ -1,20 +1,16 @@
 -- One byte more is one exclusive-or more.
-use Rattle.std.proofs.Common.{get_or, sym, ap, ◌∙◌, take_all}
+use Rattle.std.proofs.Common.{◌≡◌, [], ◌∷◌, refl, subst, rules}
 use lib.Bits.{bit_xor}
-use Rattle.std.proofs.lemmas.List.Sums.{fold_more}
+use Rattle.std.proofs.lemmas.Fn.{fold_over, slice_gives, fronts}
+use Rattle.std.proofs.lemmas.List.Sums.{fold-append}
 use Rattle.book.specs.Bytes.{exclusive_or}
 use Rattle.book.proofs.Changes.{one_change}
 use Rattle.book.proofs.sum.last_byte.Goals as goal
 
-pub loop-byte-preserved : goal.loop-byte-preserved
-loop-byte-preserved c =
-    let body = c.args.body.now in
-    let i = c.loop-byte.byte-index in
-    ap (λ s. bit_xor s (get_or body i 0)) c.loop-byte.invariant ∙ sym (fold_more bit_xor 0 body i 0 c.loop-byte-test.true)
-
 pub returns : goal.returns
 returns c =
     record {
-      value = c.loop-byte.invariant ∙ ap exclusive_or (take_all _ _ c.loop-byte-test.false);
+      value = subst (λ bs. c.fold.result ≡ exclusive_or bs) c.iter.ensures.rest
+          (fold_over fronts (λ y. y.now) _ (λ bs n. n ≡ exclusive_or bs) _ (λ bs n b m q so_far k. let more = fold-append bit_xor 0 bs (b.now ∷ []) in search rules) _ _ _ _ (slice_gives c.iter.result) refl c.fold.ensures.ran);
       tells = one_change c.args.body.now;
     }
