@@ -1,5 +1,5 @@
 -- Bytes written one after another to the front of a list: each write goes on where the last one ended.
-use Rattle.std.proofs.Common.{◌≡◌, ℕ, ◌+◌, ◌-◌, ◌<◌, ◌≤◌, List, [], ◌∷◌, ◌++◌, length, take, drop, set, sym, ap, ◌∙◌, add-one, arith}
+use Rattle.std.proofs.Common.{◌≡◌, ℕ, ◌-◌, ◌<◌, List, [], ◌∷◌, ◌++◌, length, take, drop, set, sym, ap, ◌∙◌, add-one, arith}
 use Rattle.std.proofs.lemmas.List.{append_assoc, append-nil, length-append, length-drop, take_at, take_rest, drop_all, drop_at, drop-drop, set_split}
 use Rattle.book.specs.Bytes.{big_endian, overwritten}
 use Rattle.byteorder.specs.Endian.{big_bytes}

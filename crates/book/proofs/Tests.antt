@@ -1,5 +1,5 @@
 -- The rules of a lawful account, as the code tests them.
-use Rattle.std.proofs.Common.{◌≡◌, ℕ, suc, ◌<◌, min, max, Bool, true, false, ◌&&◌, List, [], ◌∷◌, ◌++◌, length, refl, sym, ap, ◌∙◌, ap₂, not-suc-le-zero, arith}
+use Rattle.std.proofs.Common.{◌≡◌, ℕ, suc, ◌<◌, min, max, Bool, true, false, ◌&&◌, List, [], ◌∷◌, ◌++◌, length, refl, sym, ap₂, not-suc-le-zero, arith}
 use Rattle.std.specs.List.{list_all, AllByRecursion, AllWithin, HoldsAt}
 use Rattle.std.specs.Bool.{MatchBool}
 use Rattle.std.proofs.lemmas.Bool.{false≢true}

@@ -1,31 +1,17 @@
 -- What the writer answers, and that what it wrote reads back at any place of a book.
-use Rattle.std.proofs.Common.{◌≡◌, ℕ, ◌+◌, ◌-◌, ◌*◌, ◌<◌, ◌≤◌, true, List, [], ◌∷◌, ◌++◌, length, take, set, Ok, Err, sym, refl, ap, ◌∙◌, arith}
-use native.Mathlib.Nat.{sub-zero}
+use Rattle.std.proofs.Common.{◌≡◌, ℕ, ◌-◌, ◌≤◌, true, List, [], ◌∷◌, ◌++◌, length, take, set, sym, refl, ap, ◌∙◌, arith}
 use Rattle.std.proofs.lemmas.List.{append_assoc, drop_at, length-append, take_at}
-use Rattle.std.proofs.lemmas.Bool.{le-leb, lt-leb}
+use Rattle.std.proofs.lemmas.Bool.{le-leb}
 use Rattle.std.specs.List.{flat_map}
 use Rattle.snapshot.specs.Accounts.{Account, lawful}
-use Rattle.snapshot.specs.declared.fault.Refusal.TheVariants.{TooShort}
 use Rattle.book.specs.Bytes.{exclusive_or, overwritten}
-use Rattle.book.specs.Calls.{writing, buffer_after, front_for}
+use Rattle.book.specs.Calls.{front_for}
 use Rattle.book.specs.Format.{reading_bytes, write_bytes, head_bytes, body_bytes, bytes_of, front_account}
 use Rattle.book.specs.Theorems.{ValuesFit, ReadsBackAnywhere}
 use Rattle.book.proofs.Placing.{one_more}
 use Rattle.book.proofs.RoundTrip.{written_reads_back}
 
 module _ (a : Account) (law : lawful a ≡ true) where
-  pub written_short : (room : ℕ) → room < length (bytes_of a) → writing a room ≡ Err TooShort
-  written_short room short = rw (law, lt-leb (length (bytes_of a)) room short)
-
-  pub written_whole : (room : ℕ) → length (bytes_of a) ≤ room → writing a room ≡ Ok (length (bytes_of a))
-  written_whole room long = rw (law, le-leb (length (bytes_of a)) room long)
-
-  pub buffer_short : (old : List ℕ) → length old < length (bytes_of a) → old ≡ buffer_after a old
-  buffer_short old short = rw (law, lt-leb (length (bytes_of a)) (length old) short)
-
-  pub buffer_whole : (old : List ℕ) → length (bytes_of a) ≤ length old → buffer_after a old ≡ overwritten (bytes_of a) old
-  buffer_whole old long = rw (law, le-leb (length (bytes_of a)) (length old) long)
-
   pub reads_back_anywhere : ValuesFit a → ReadsBackAnywhere a
   reads_back_anywhere fits before rest n m rs ws =
       ap (λ bs. front_for n m (front_account bs)) (drop_at before (bytes_of a ++ rest) (length before) refl)

@@ -1,5 +1,5 @@
 -- Numbers as bytes, highest first, records one after another, and the exclusive-or of bytes.
-use Rattle.std.specs.Prelude.{◌≡◌, ℕ, zero, suc, ◌+◌, ◌*◌, ◌/◌, ◌%◌, ◌^◌, ◌<◌, List, [], ◌∷◌, ◌++◌, length, take, drop, fold, bit_xor, slice_index, slice_set}
+use Rattle.std.specs.Prelude.{◌≡◌, ℕ, zero, suc, ◌*◌, ◌/◌, ◌%◌, ◌^◌, ◌<◌, List, [], ◌∷◌, ◌++◌, length, take, drop, fold, bit_xor, slice_index, slice_set}
 use Rattle.std.specs.Int.Digits.{number_from_digits}
 
 -- the lowest k bytes of n, highest first

@@ -107,6 +107,7 @@ pub fn read_account(
 }
 
 // The account at this place of the book.
+#[tactic(auto, using(crate::proofs::Reading::accepted_at))]
 pub(crate) fn account_at(book: &[u8], start: usize) -> Result<Stored, BookFault>
     ensures value { result ≡ faulted start (front_account (drop start book.now)) }
     ensures written { IfOk result (IsWritten (drop start book.now)) }

@@ -1,5 +1,5 @@
 -- The test of each reading is the rule's.
-use Rattle.std.proofs.Common.{◌≡◌, ◌^◌, ◌<◌, true, false, ◌∙◌, rules, tests}
+use Rattle.std.proofs.Common.{◌≡◌, ◌^◌, ◌<◌, true, false, rules, tests}
 use Rattle.std.proofs.lemmas.Iterator.{YieldsList-from_slice, cases_from_all}
 use Rattle.snapshot.specs.Accounts.{sound_reading}
 use Rattle.book.proofs.Tests.{all_tells}

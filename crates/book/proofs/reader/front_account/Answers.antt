@@ -14,11 +14,11 @@ returns-in_err-counts c =
 pub returns-then-not-is_lawful : goal.returns-then-not-is_lawful
 returns-then-not-is_lawful c =
     let same = c.account.ensures ∙ c.decode-stored.ensures in
-    let front = (frame_passes c.args.bytes.now c.in_ok-counts.counts (sym c.in_ok-counts.ensures.value)).0 in
+    let front = frame_passes c.args.bytes.now c.in_ok-counts.counts (sym c.in_ok-counts.ensures.value) in
     sym (front ∙ ap lawful_only (sym same) ∙ cond-false _ _ _ (sym c.if-not-is_lawful.ensures.value))
 
 pub returns : goal.returns
 returns c =
     let same = c.account.ensures ∙ c.decode-stored.ensures in
-    let front = (frame_passes c.args.bytes.now c.in_ok-counts.counts (sym c.in_ok-counts.ensures.value)).0 in
+    let front = frame_passes c.args.bytes.now c.in_ok-counts.counts (sym c.in_ok-counts.ensures.value) in
     ap Ok (sym c.account.ensures) ∙ sym (front ∙ ap lawful_only (sym same) ∙ cond-true _ _ _ (sym c.if-not-is_lawful.ensures.value))

@@ -1,6 +1,5 @@
 -- Head, readings, writes and last byte, one after the other.
 use Rattle.std.proofs.Common.{◌≡◌, ◌++◌, length, refl, arith}
-use Rattle.std.proofs.lemmas.List.{length-append}
 use Rattle.std.specs.List.{flat_map}
 use Rattle.book.specs.Format.{reading_bytes, write_bytes, head_bytes, told}
 use Rattle.book.proofs.Placing.{part_more}
