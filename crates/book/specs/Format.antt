@@ -1,5 +1,5 @@
 -- The bytes of an account, and the account that bytes tell.
-use Rattle.std.specs.Prelude.{ℕ, ◌+◌, ◌-◌, ◌*◌, Bool, cond, ◌&&◌, List, [], ◌∷◌, ◌++◌, length, take, drop, Ok, Err, Result, ◌==◌, nat_le, slice_index}
+use Rattle.std.specs.Prelude.{ℕ, ◌+◌, ◌-◌, ◌*◌, Bool, if◌then◌else◌, ◌&&◌, List, [], ◌∷◌, ◌++◌, length, take, drop, Ok, Err, Result, ◌==◌, nat_le, slice_index}
 use Rattle.std.specs.List.{flat_map}
 use Rattle.snapshot.specs.Accounts.{Account, lawful}
 use Rattle.snapshot.specs.Limits.{chain_readings, write_keys}
@@ -101,7 +101,7 @@ account_from bs =
 
 -- refused unless the test holds
 abbrev pub check : {X : Type 0} → Bool → Refusal → Result X Refusal → Result X Refusal
-check ok e rest = cond ok rest (Err e)
+check ok e rest = if ok then rest else Err e
 
 -- the bytes of one account stand at the front: its two counts are in range, it is whole, and its last byte is right
 abbrev pub framed : {X : Type 0} → List ℕ → Result X Refusal → Result X Refusal
