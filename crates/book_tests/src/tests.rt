@@ -11,19 +11,14 @@ use std::test::Fail;
 
 const OPEN_END: u64 = 281_474_976_710_656;
 
-const ALL_TIMES: Interval = Interval {
-    low: 0,
-    high: OPEN_END,
-};
-
-// The bytes of the account with no readings and no writes: mark and counts, low, high, timestamp, last byte.
+// The bytes of `EMPTY`: mark and counts, low, high, timestamp, last byte.
 const SHORTEST: [u8; 29] = *b"\xC3\x3C\x00\x00\
     \x00\x00\x00\x00\x00\x00\x00\x00\
     \x00\x01\x00\x00\x00\x00\x00\x00\
     \x00\x00\x00\x00\x00\x00\x00\x00\
     \xFE";
 
-// The bytes of `lawful_sample`: mark and counts, low, high, timestamp, three readings, two writes, last byte.
+// The bytes of `SAMPLE`: mark and counts, low, high, timestamp, three readings, two writes, last byte.
 const SAMPLE_BYTES: [u8; 105] = *b"\xC3\x3C\x03\x02\
     \x00\x00\x00\x00\x00\x00\x00\x14\
     \x00\x00\x00\x00\x00\x00\x00\x1E\
@@ -35,15 +30,56 @@ const SAMPLE_BYTES: [u8; 105] = *b"\xC3\x3C\x03\x02\
     \x28\x00\x00\x00\x06\
     \xCF";
 
+const SAMPLE_READINGS: [ChainReading; 3] = [
+    ChainReading {
+        worker: 3,
+        key: 7,
+        reading: Reading {
+            value: 1,
+            timestamp: 10,
+            promise: 40,
+        },
+    },
+    ChainReading {
+        worker: 1,
+        key: 9,
+        reading: Reading {
+            value: 4_294_967_295,
+            timestamp: 20,
+            promise: 50,
+        },
+    },
+    ChainReading {
+        worker: 7,
+        key: 63,
+        reading: Reading {
+            value: 256,
+            timestamp: 15,
+            promise: 30,
+        },
+    },
+];
+
+const SAMPLE_WRITES: [Write; 2] = [Write { key: 2, value: 5 }, Write { key: 40, value: 6 }];
+
 // A lawful account of three readings and two writes.
-#[derive(Clone, Copy)]
-struct Sample {
-    low: u64,
-    high: u64,
-    timestamp: u64,
-    readings: [ChainReading; 3],
-    writes: [Write; 2],
-}
+const SAMPLE: Account<'static> = Account {
+    interval: Interval { low: 20, high: 30 },
+    timestamp: 51,
+    readings: &SAMPLE_READINGS,
+    writes: &SAMPLE_WRITES,
+};
+
+// The account of a chain that read and wrote nothing.
+const EMPTY: Account<'static> = Account {
+    interval: Interval {
+        low: 0,
+        high: OPEN_END,
+    },
+    timestamp: 0,
+    readings: &[],
+    writes: &[],
+};
 
 fn made(worker: u8, key: u8, value: u32, timestamp: u64, promise: u64) -> ChainReading {
     ChainReading {
@@ -62,33 +98,6 @@ fn held(key: u8) -> Write {
         key,
         value: 4_294_967_295,
     }
-}
-
-fn lawful_sample() -> Sample {
-    Sample {
-        low: 20,
-        high: 30,
-        timestamp: 51,
-        readings: [
-            made(3, 7, 1, 10, 40),
-            made(1, 9, 4_294_967_295, 20, 50),
-            made(7, 63, 256, 15, 30),
-        ],
-        writes: [Write { key: 2, value: 5 }, Write { key: 40, value: 6 }],
-    }
-}
-
-fn write(sample: &Sample, buffer: &mut [u8]) -> Result<usize, BookFault> {
-    let account = Account {
-        interval: Interval {
-            low: sample.low,
-            high: sample.high,
-        },
-        timestamp: sample.timestamp,
-        readings: &sample.readings,
-        writes: &sample.writes,
-    };
-    account.write(buffer)
 }
 
 // The call was refused by the book, with this number and byte place, and names no place, leg or key.
@@ -118,13 +127,7 @@ fn refused<T: Drop>(
 #[test]
 fn shortest_account_is_written(rt: HostRuntime) {
     let mut buffer = [7u8; 31];
-    let account = Account {
-        interval: ALL_TIMES,
-        timestamp: 0,
-        readings: &[],
-        writes: &[],
-    };
-    assert_eq!(rt; account.write(&mut buffer).ok(), Some(29));
+    assert_eq!(rt; EMPTY.write(&mut buffer).ok(), Some(29));
     assert_eq!(rt; &buffer[0..29], &SHORTEST[..]);
     assert_eq!(rt; &buffer[29..31], &[7, 7][..]);
 }
@@ -132,7 +135,7 @@ fn shortest_account_is_written(rt: HostRuntime) {
 #[test]
 fn sample_is_written(rt: HostRuntime) {
     let mut buffer = [0u8; 105];
-    assert_eq!(rt; write(&lawful_sample(), &mut buffer).ok(), Some(105));
+    assert_eq!(rt; SAMPLE.write(&mut buffer).ok(), Some(105));
     assert_eq!(rt; &buffer[..], &SAMPLE_BYTES[..]);
 }
 
@@ -181,130 +184,93 @@ fn longest_account_comes_back(rt: HostRuntime) -> Result<(), Fail> {
 }
 
 // Writing this account is refused as unlawful, also into a buffer that is too short, and the buffer stays.
-fn is_unlawful(rt: &impl Abort, account: &Sample) -> Result<(), Fail> {
+fn is_unlawful(rt: &impl Abort, account: Account<'_>) -> Result<(), Fail> {
     let mut buffer = [7u8; 105];
-    refused(rt, write(account, &mut buffer), 21, 0)?;
+    refused(rt, account.write(&mut buffer), 21, 0)?;
     assert!(rt; buffer == [7u8; 105]);
-    refused(rt, write(account, &mut []), 21, 0)
+    refused(rt, account.write(&mut []), 21, 0)
 }
 
 #[test]
 fn unlawful_accounts_are_not_written(rt: HostRuntime) -> Result<(), Fail> {
-    let good = lawful_sample();
-    is_unlawful(&rt, &Sample { low: 19, ..good })?;
-    is_unlawful(&rt, &Sample { low: 21, ..good })?;
-    is_unlawful(&rt, &Sample { high: 29, ..good })?;
-    is_unlawful(&rt, &Sample { high: 31, ..good })?;
-    is_unlawful(
-        &rt,
-        &Sample {
-            timestamp: 0,
-            ..good
-        },
-    )?;
-    is_unlawful(
-        &rt,
-        &Sample {
-            timestamp: 50,
-            ..good
-        },
-    )?;
-    is_unlawful(
-        &rt,
-        &Sample {
-            timestamp: OPEN_END,
-            ..good
-        },
-    )
+    for (low, high) in [(19, 30), (21, 30), (20, 29), (20, 31)] {
+        let interval = Interval { low, high };
+        is_unlawful(&rt, Account { interval, ..SAMPLE })?;
+    }
+    for timestamp in [0, 50, OPEN_END] {
+        is_unlawful(
+            &rt,
+            Account {
+                timestamp,
+                ..SAMPLE
+            },
+        )?;
+    }
+    Ok(())
 }
 
 #[test]
 fn unlawful_readings_are_not_written(rt: HostRuntime) -> Result<(), Fail> {
-    let good = lawful_sample();
-    let [first, second, third] = good.readings;
+    let [first, second, third] = SAMPLE_READINGS;
     let worker = [made(8, 7, 1, 10, 40), second, third];
     is_unlawful(
         &rt,
-        &Sample {
-            readings: worker,
-            ..good
+        Account {
+            readings: &worker,
+            ..SAMPLE
         },
     )?;
     let key = [made(3, 64, 1, 10, 40), second, third];
     is_unlawful(
         &rt,
-        &Sample {
-            readings: key,
-            ..good
+        Account {
+            readings: &key,
+            ..SAMPLE
         },
     )?;
     // the ends are right, and apart
-    let apart = [first, made(1, 9, 0, 31, 50), third];
-    is_unlawful(
-        &rt,
-        &Sample {
-            low: 31,
-            readings: apart,
-            ..good
-        },
-    )?;
+    let apart = Account {
+        interval: Interval { low: 31, high: 30 },
+        readings: &[first, made(1, 9, 0, 31, 50), third],
+        ..SAMPLE
+    };
+    is_unlawful(&rt, apart)?;
     // only the second's timestamp is above its promise
-    let backward = [
-        made(0, 0, 0, 0, 40),
-        made(1, 9, 0, 50, 49),
-        made(0, 0, 0, 0, 50),
-    ];
-    is_unlawful(
-        &rt,
-        &Sample {
-            low: 50,
-            high: 40,
-            readings: backward,
-            ..good
-        },
-    )
+    let backward = Account {
+        interval: Interval { low: 50, high: 40 },
+        readings: &[
+            made(0, 0, 0, 0, 40),
+            made(1, 9, 0, 50, 49),
+            made(0, 0, 0, 0, 50),
+        ],
+        ..SAMPLE
+    };
+    is_unlawful(&rt, backward)
 }
 
 #[test]
 fn unlawful_writes_are_not_written(rt: HostRuntime) -> Result<(), Fail> {
-    let good = lawful_sample();
-    let [first, second] = good.writes;
-    is_unlawful(
-        &rt,
-        &Sample {
-            writes: [second, first],
-            ..good
-        },
-    )?;
-    is_unlawful(
-        &rt,
-        &Sample {
-            writes: [first, first],
-            ..good
-        },
-    )?;
-    is_unlawful(
-        &rt,
-        &Sample {
-            writes: [first, Write { key: 64, value: 6 }],
-            ..good
-        },
-    )
+    let [first, second] = SAMPLE_WRITES;
+    let out_of_range = Write { key: 64, value: 6 };
+    for writes in [[second, first], [first, first], [first, out_of_range]] {
+        is_unlawful(
+            &rt,
+            Account {
+                writes: &writes,
+                ..SAMPLE
+            },
+        )?;
+    }
+    Ok(())
 }
 
 #[test]
 fn unlawful_sizes_are_not_written(rt: HostRuntime) -> Result<(), Fail> {
-    let empty = Account {
-        interval: ALL_TIMES,
-        timestamp: 0,
-        readings: &[],
-        writes: &[],
-    };
     let mut buffer = [7u8; 1000];
     let many_readings = Account {
         interval: Interval { low: 0, high: 0 },
         readings: &[NO_READING; 33],
-        ..empty
+        ..EMPTY
     };
     refused(&rt, many_readings.write(&mut buffer), 21, 0)?;
     let many_writes = Account {
@@ -320,17 +286,17 @@ fn unlawful_sizes_are_not_written(rt: HostRuntime) -> Result<(), Fail> {
             held(7),
             held(8),
         ],
-        ..empty
+        ..EMPTY
     };
     refused(&rt, many_writes.write(&mut buffer), 21, 0)?;
     let timestamp_without_writes = Account {
         timestamp: 1,
-        ..empty
+        ..EMPTY
     };
     refused(&rt, timestamp_without_writes.write(&mut buffer), 21, 0)?;
     let promise_at_the_open_end = Account {
         readings: &[made(0, 0, 0, 0, OPEN_END)],
-        ..empty
+        ..EMPTY
     };
     refused(&rt, promise_at_the_open_end.write(&mut buffer), 21, 0)?;
     assert!(rt; buffer == [7u8; 1000]);
@@ -340,7 +306,7 @@ fn unlawful_sizes_are_not_written(rt: HostRuntime) -> Result<(), Fail> {
 #[test]
 fn short_buffer_is_refused(rt: HostRuntime) -> Result<(), Fail> {
     let mut buffer = [7u8; 104];
-    refused(&rt, write(&lawful_sample(), &mut buffer), 10, 0)?;
+    refused(&rt, SAMPLE.write(&mut buffer), 10, 0)?;
     assert!(rt; buffer == [7u8; 104]);
     Ok(())
 }
@@ -375,8 +341,7 @@ fn changed(at: usize, byte: u8) -> [u8; 105] {
 #[test]
 fn account_comes_back_from_any_place(rt: HostRuntime) -> Result<(), Fail> {
     let mut book = [0u8; 300];
-    let good = lawful_sample();
-    let _ = write(&good, &mut book[100..300]);
+    let _ = SAMPLE.write(&mut book[100..300]);
     let mut readings = [NO_READING; 4];
     let mut writes = [NO_WRITE; 3];
     let Ok(read) = read_account(&book, 100, &mut readings, &mut writes) else {
@@ -392,8 +357,8 @@ fn account_comes_back_from_any_place(rt: HostRuntime) -> Result<(), Fail> {
             writes: 2,
         }
     );
-    let [r0, r1, r2] = good.readings;
-    let [w0, w1] = good.writes;
+    let [r0, r1, r2] = SAMPLE_READINGS;
+    let [w0, w1] = SAMPLE_WRITES;
     assert_eq!(rt; readings, [r0, r1, r2, NO_READING]);
     assert_eq!(rt; writes, [w0, w1, NO_WRITE]);
     Ok(())
@@ -467,9 +432,8 @@ fn lists_may_be_just_long_enough(rt: HostRuntime) {
     let mut readings = [NO_READING; 3];
     let mut writes = [NO_WRITE; 2];
     assert!(rt; read_account(&SAMPLE_BYTES, 0, &mut readings, &mut writes).is_ok());
-    let good = lawful_sample();
-    assert!(rt; readings == good.readings);
-    assert!(rt; writes == good.writes);
+    assert!(rt; readings == SAMPLE_READINGS);
+    assert!(rt; writes == SAMPLE_WRITES);
 }
 
 #[test]
