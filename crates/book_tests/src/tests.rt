@@ -143,16 +143,7 @@ fn sample_is_written(rt: HostRuntime) {
 fn longest_account_comes_back(rt: HostRuntime) -> Result<(), Fail> {
     let mut readings = [made(7, 63, 4_294_967_295, 5, 9); 32];
     readings[31] = made(0, 1, 2, 8, 8);
-    let writes = [
-        held(0),
-        held(1),
-        held(2),
-        held(3),
-        held(4),
-        held(5),
-        held(62),
-        held(63),
-    ];
+    let writes = [0, 1, 2, 3, 4, 5, 62, 63].map(held);
     let interval = Interval { low: 8, high: 8 };
     let account = Account {
         interval,
@@ -275,17 +266,7 @@ fn unlawful_sizes_are_not_written(rt: HostRuntime) -> Result<(), Fail> {
     refused(&rt, many_readings.write(&mut buffer), 21, 0)?;
     let many_writes = Account {
         timestamp: 1,
-        writes: &[
-            held(0),
-            held(1),
-            held(2),
-            held(3),
-            held(4),
-            held(5),
-            held(6),
-            held(7),
-            held(8),
-        ],
+        writes: &[0, 1, 2, 3, 4, 5, 6, 7, 8].map(held),
         ..EMPTY
     };
     refused(&rt, many_writes.write(&mut buffer), 21, 0)?;
