@@ -1,12 +1,11 @@
 pub mod Changes
+pub mod Tests
 pub mod Placing
 pub mod Packing
-pub mod Decoding
 pub mod Parts
 pub mod Numbers
 pub mod Records
 pub mod RoundTrip
 pub mod Writing
 pub mod Reading
-pub mod Heads
 pub mod Listings

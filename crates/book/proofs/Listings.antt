@@ -1,16 +1,13 @@
 -- A book read so far, one account more, and the end of the reading.
-use Rattle.std.proofs.Common.{◌≡◌, ℕ, ◌+◌, ◌*◌, ◌/◌, ◌<◌, ◌≤◌, true, List, [], ◌∷◌, ◌++◌, map, length, get_or, take, drop, sym, refl, ap, ◌∙◌, arith}
+use Rattle.std.proofs.Common.{◌≡◌, ℕ, ◌+◌, ◌*◌, ◌/◌, ◌<◌, ◌≤◌, true, List, [], ◌∷◌, ◌++◌, map, length, drop, sym, refl, ap, ◌∙◌, arith}
 use Rattle.std.proofs.ByRecursion.{All-push}
-use Rattle.std.proofs.lemmas.List.{append_assoc, append-nil, drop_all, flat_map_more, length-append, length-drop, length-map, map_push}
+use Rattle.std.proofs.lemmas.List.{append_assoc, flat_map_more, length-append, length-drop, length-map, map_push}
 use Rattle.std.specs.List.{flat_map, AllByRecursion}
 use Rattle.snapshot.specs.Accounts.{Account, head_of, lawful}
 use Rattle.snapshot.specs.declared.account.AccountHead.{AccountHead}
-use Rattle.book.specs.Books.{Listed, ListedBehind, Stands, head_line}
+use Rattle.book.specs.Books.{Stands}
 use Rattle.book.specs.Format.{bytes_of, size_of}
-use Rattle.book.specs.declared.listing.Ending.{Ending}
-use Rattle.book.specs.declared.listing.Ending.TheVariants.{Whole}
 use Rattle.book.specs.declared.reader.AccountAt.{AccountAt}
-use Rattle.book.proofs.Packing.{joined_next}
 use Rattle.book.proofs.RoundTrip.{takes_its_size}
 
 -- the bytes before this place are those of lawful accounts with these heads
@@ -50,15 +47,6 @@ module _ {book : List ℕ} {heads : List AccountHead} {start : ℕ} (s : SoFar b
         place = omega (arith, next.takes, s.place, length-append (flat_map bytes_of done) (bytes_of a), ap length bytes);
       }
 
-  pub so_far_whole : length book ≤ start → Listed book heads Whole
-  so_far_whole past =
-      record {
-        accounts = s.accounts;
-        lawfully = s.lawfully;
-        listed = s.listed;
-        ends = s.read ∙ ap (λ bs. flat_map bytes_of s.accounts ++ bs) (drop_all start book past) ∙ append-nil (flat_map bytes_of s.accounts);
-      }
-
 -- the list after some turns is the list before the loop with what was read behind
 pub record Behind (before after : List AccountHead) (book : List ℕ) (start : ℕ) : Type 0 where
   pub heads : List AccountHead
@@ -74,9 +62,6 @@ module _ {before after : List AccountHead} {book : List ℕ} {start : ℕ} (b : 
         read = so_far_more b.read next refl;
       }
 
-  pub behind_ends : {ending : Ending} → Listed book b.heads ending → ListedBehind before after book ending
-  behind_ends listed = record { heads = b.heads; behind = b.behind; listed = listed }
-
   -- a list with room for as many accounts as the book can have has room for the one that stands here
   pub has_room : {at : AccountAt} (room : ℕ) → Stands book start at → length before + length book / size_of 0 0 ≤ room → length after < room
   has_room {at} room next enough =
@@ -84,13 +69,3 @@ module _ {before after : List AccountHead} {book : List ℕ} {start : ℕ} (b : 
       let fits = ap length next.bytes ∙ length-append (bytes_of a) (drop at.end book) in
       let more = ap length b.behind ∙ length-append before b.heads in
       omega (arith, so_far_few b.read, takes_its_size a, fits, length-drop start book, more)
-
--- The text.
-
--- one line more
-pub text_more : (heads : List AccountHead) (i : ℕ) (d : AccountHead) {old text line new : List ℕ} → i < length heads → old ≡ flat_map head_line (take i heads) → text ≡ line → line ≡ head_line (get_or heads i d) → new ≡ old ++ text → new ≡ flat_map head_line (take (i + 1) heads)
-text_more heads i d {old} lt sofar shown is pushed =
-    pushed
-    ∙ ap (λ bs. old ++ bs) (shown ∙ is)
-    ∙ ap (λ bs. bs ++ head_line (get_or heads i d)) sofar
-    ∙ sym (joined_next head_line heads i d lt)

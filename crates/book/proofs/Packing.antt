@@ -1,15 +1,8 @@
 -- Records one after another: one record more, and where it stands.
-use Rattle.std.proofs.Common.{◌≡◌, ℕ, zero, suc, ◌+◌, ◌*◌, ◌<◌, ◌≤◌, List, [], ◌∷◌, ◌++◌, length, get_or, take, drop, sym, refl, ap, ◌∙◌, mul-le-mul_left, mul-zero, mul-one, mul-suc, mul-add, arith}
+use Rattle.std.proofs.Common.{◌≡◌, ℕ, zero, suc, ◌+◌, ◌*◌, ◌<◌, ◌≤◌, List, [], ◌∷◌, ◌++◌, length, get_or, take, drop, sym, refl, ap, ◌∙◌, mul-zero, mul-suc, arith}
 use Rattle.std.specs.List.{flat_map}
 use Rattle.std.proofs.lemmas.List.{take_more, flat_map_more, length-append, length-take-le, drop-drop}
 use Rattle.book.specs.Bytes.{records_from}
-
--- the record at i of n ends within the bytes of all n
-pub within : (size at i n room : ℕ) → i < n → at + size * n ≤ room → (at + size * i) + size ≤ room
-within size at i n room lt fits = omega (arith, mul-le-mul_left size lt, mul-suc size i)
-
-pub next_place : (size at i : ℕ) → (at + size * i) + size ≡ at + size * (i + 1)
-next_place size at i = omega (arith, mul-add size i 1, mul-one size)
 
 module _ {X : Type 0} (pack : X → List ℕ) where
   pub length_joined : (size : ℕ) → ((x : X) → length (pack x) ≡ size) → (xs : List X) → length (flat_map pack xs) ≡ size * length xs

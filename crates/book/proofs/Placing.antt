@@ -1,44 +1,39 @@
--- Bytes placed one after another: each placing goes on where the last one ended.
-use Rattle.std.proofs.Common.{◌≡◌, ℕ, ◌+◌, ◌<◌, ◌≤◌, List, [], ◌∷◌, ◌++◌, length, take, drop, set, sym, ap, ◌∙◌, add-zero, add-one, arith}
-use Rattle.std.proofs.lemmas.List.{append_assoc, length-append, length-drop, length-take-le, take_at, drop_at, drop-drop, set_split, take-append-drop}
-use Rattle.book.specs.Bytes.{placed}
+-- Bytes written one after another to the front of a list: each write goes on where the last one ended.
+use Rattle.std.proofs.Common.{◌≡◌, ℕ, ◌-◌, ◌<◌, List, [], ◌∷◌, ◌++◌, length, take, drop, set, sym, ap, ◌∙◌, add-one, arith}
+use Rattle.std.proofs.lemmas.List.{append_assoc, append-nil, length-append, length-drop, take_at, take_rest, drop_all, drop_at, drop-drop, set_split}
+use Rattle.book.specs.Bytes.{big_endian, overwritten}
+use Rattle.byteorder.specs.Endian.{big_bytes}
+use Rattle.book.proofs.Numbers.{big_bytes_are, length_big_endian}
 
-module _ {X : Type 0} (at : ℕ) (xs old : List X) (fits : at + length xs ≤ length old) where
-  -- what stands before the end of the placed elements, and what behind
-  front : List X
-  front = take at old ++ xs
+module _ {X : Type 0} (old front : List X) {mid : List X} (at : ℕ) (ends : at ≡ length front) (is : mid ≡ overwritten front old) where
+  -- some elements more
+  more : (xs : List X) → take at mid ++ overwritten xs (drop at mid) ≡ overwritten (front ++ xs) old
+  more xs =
+      let rest = drop (length front) old in
+      let t : take at mid ≡ front = ap (take at) is ∙ take_at front rest at (sym ends) in
+      let d : drop at mid ≡ rest = ap (drop at) is ∙ drop_at front rest at (sym ends) in
+      let f : drop (length xs) rest ≡ drop (length (front ++ xs)) old =
+      drop-drop (length xs) (length front) old ∙ ap (λ n. drop n old) (sym (length-append front xs)) in
+      rw (t, d) (ap (λ z. front ++ (xs ++ z)) f ∙ sym (append_assoc front xs (drop (length (front ++ xs)) old)))
 
-  front_length : length front ≡ at + length xs
-  unfolding front
-  front_length = let l = length-take-le at old (omega arith) in length-append (take at old) xs ∙ ap (λ n. n + length xs) l
+  -- the same, written to the part from a place on
+  pub part_more : (xs : List X) {part : List X} → part ≡ overwritten xs (take (length mid - at) (drop at mid)) → take at mid ++ (part ++ drop (length mid - at) (drop at mid)) ≡ overwritten (front ++ xs) old
+  part_more xs {part} written =
+      let whole : part ≡ overwritten xs (drop at mid) = written ∙ ap (overwritten xs) (take_rest mid at) in
+      let none : drop (length mid - at) (drop at mid) ≡ [] = drop_all (length mid - at) (drop at mid) (omega (arith, length-drop at mid)) in
+      ap (λ z. take at mid ++ (part ++ z)) none ∙ ap (λ l. take at mid ++ l) (append-nil part ∙ whole) ∙ more xs
 
-  split : placed at xs old ≡ front ++ drop (at + length xs) old
-  unfolding front
-  split = sym (append_assoc (take at old) xs (drop (at + length xs) old))
+  -- one element more
+  pub one_more : (x : X) → at < length old → set mid at x ≡ overwritten (front ++ (x ∷ [])) old
+  one_more x lt =
+      let inside : at < length mid = omega (arith, ap length is, length-append front (drop (length front) old), length-drop (length front) old) in
+      set_split mid at x inside
+      ∙ ap (λ l. take at mid ++ (x ∷ l)) (ap (λ n. drop n mid) (sym (add-one at)) ∙ sym (drop-drop 1 at mid))
+      ∙ more (x ∷ [])
 
-  placed_more : (next : ℕ) (ys : List X) → next ≡ at + length xs → placed next ys (placed at xs old) ≡ placed at (xs ++ ys) old
-  unfolding front
-  placed_more next ys e =
-      let l : length front ≡ next = front_length ∙ sym e in
-      let rest = drop (at + length xs) old in
-      let t : take next (placed at xs old) ≡ front = ap (take next) split ∙ take_at front rest next l in
-      let d : drop next (placed at xs old) ≡ rest = ap (drop next) split ∙ drop_at front rest next l in
-      let f : drop (next + length ys) (placed at xs old) ≡ drop (at + length (xs ++ ys)) old =
-      sym (drop-drop (length ys) next (placed at xs old))
-      ∙ ap (drop (length ys)) d
-      ∙ drop-drop (length ys) (at + length xs) old
-      ∙ ap (λ n. drop n old) (omega (arith, length-append xs ys)) in
-      rw (t, f) (append_assoc (take at old) xs (ys ++ drop (at + length (xs ++ ys)) old) ∙ ap (λ z. take at old ++ z) (sym (append_assoc xs ys (drop (at + length (xs ++ ys)) old))))
-
-  pub length_placed : length (placed at xs old) ≡ length old
-  length_placed = ap length split ∙ length-append front (drop (at + length xs) old) ∙ omega (arith, front_length, length-drop (at + length xs) old)
-
-  -- two placings, one after the other
-  pub placed_then : {mid after : List X} (next : ℕ) (ys : List X) → next ≡ at + length xs → mid ≡ placed at xs old → after ≡ placed next ys mid → after ≡ placed at (xs ++ ys) old
-  placed_then next ys e m a = a ∙ ap (placed next ys) m ∙ placed_more next ys e
-
-pub placed_one : {X : Type 0} (old : List X) (at : ℕ) (x : X) → at < length old → set old at x ≡ placed at (x ∷ []) old
-placed_one old at x lt = set_split old at x lt ∙ ap (λ n. take at old ++ (x ∷ drop n old)) (sym (add-one at))
-
-pub placed_none : {X : Type 0} (old : List X) (at : ℕ) → old ≡ placed at [] old
-placed_none old at = sym (take-append-drop at old) ∙ ap (λ n. take at old ++ drop n old) (sym (add-zero at))
+-- a number more
+pub number_more : (old front : List ℕ) {mid part : List ℕ} (at k n : ℕ) → at ≡ length front → mid ≡ overwritten front old → part ≡ big_bytes k n ++ drop k (take (length mid - at) (drop at mid)) → take at mid ++ (part ++ drop (length mid - at) (drop at mid)) ≡ overwritten (front ++ big_endian k n) old
+number_more old front {mid} {part} at k n ends is written =
+    let rest = take (length mid - at) (drop at mid) in
+    part_more old front at ends is (big_endian k n)
+    (written ∙ ap (λ bs. bs ++ drop k rest) (big_bytes_are k n) ∙ ap (λ m. big_endian k n ++ drop m rest) (sym (length_big_endian k n)))

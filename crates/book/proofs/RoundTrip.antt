@@ -12,7 +12,7 @@ use Rattle.snapshot.specs.declared.account.Write.{Write}
 use Rattle.snapshot.specs.declared.fault.Refusal.{Refusal}
 use Rattle.book.specs.Bytes.{big_endian, number_at, exclusive_or, records_from}
 use Rattle.book.specs.Format.{reading_bytes, write_bytes, head_bytes, body_bytes, bytes_of, size_of, size_in, readings_in, writes_in, reading_from, write_from, account_from, front_account}
-use Rattle.book.specs.Theorems.{ValuesFit}
+use Rattle.book.specs.Theorems.{ValuesFit, IsWritten}
 use Rattle.book.proofs.Parts.{small_part, byte_then, part_then, front_then}
 use Rattle.book.proofs.Numbers.{number_bytes, bytes_at}
 use Rattle.book.proofs.Records.{Held, length_records, length_readings, length_writes, readings_back, writes_back, readings_written, writes_written}
@@ -168,11 +168,7 @@ module _ (bs : List ℕ) (c : Checks bs) (small : AllBelowBase 256 (take (size_i
       ∙ sym (take_more bs k 0 (omega arith))
       ∙ ap (λ n. take n bs) size
 
--- bytes from which an account is read are that account's bytes, with the rest behind them, and the account is lawful
-pub record IsWritten (bs : List ℕ) (a : Account) : Type 0 where
-  pub front : bs ≡ bytes_of a ++ drop (length (bytes_of a)) bs
-  pub lawfully : lawful a ≡ true
-
+-- an account that is read from bytes is written there
 pub accepted_is_written : (bs : List ℕ) → AllBelowBase 256 (take (size_in bs) bs) → (a : Account) → front_account bs ≡ Ok a → IsWritten bs a
 accepted_is_written bs small a read =
     let c = passed bs a read in

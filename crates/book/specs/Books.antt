@@ -1,13 +1,11 @@
 -- The reading of a whole book, account after account from its first byte.
-use Rattle.std.specs.Prelude.{◌≡◌, ℕ, ◌+◌, true, List, [], ◌∷◌, ◌++◌, map, length, drop, Ok, Err, codes, decimal, Result}
+use Rattle.std.specs.Prelude.{◌≡◌, ℕ, ◌+◌, true, List, [], ◌∷◌, ◌++◌, map, length, drop, Ok, Err, codes, decimal, Some, None, Option, Result}
 use Rattle.std.specs.List.{flat_map, AllByRecursion}
 use Rattle.snapshot.specs.Accounts.{Account, head_of, lawful}
 use Rattle.snapshot.specs.Refusals.{book_fault, number_of}
 use Rattle.snapshot.specs.Shown.{head_text, spaced}
 use Rattle.snapshot.specs.declared.account.AccountHead.{AccountHead}
 use Rattle.snapshot.specs.declared.fault.BookFault.{BookFault}
-use Rattle.book.specs.declared.listing.Ending.{Ending}
-use Rattle.book.specs.declared.listing.Ending.TheVariants.{Whole, Bad}
 use Rattle.book.specs.declared.reader.AccountAt.{AccountAt}
 use Rattle.book.specs.Format.{bytes_of, front_account}
 
@@ -28,21 +26,21 @@ abbrev pub StandsOrRefused : List ℕ → ℕ → Result AccountAt BookFault →
 StandsOrRefused book start (Ok at) = Stands book start at
 StandsOrRefused book start (Err f) = Refused book start f
 
--- where the reading of a book ends: at its end, or behind these bytes where the next account is refused
-abbrev pub Ends : List ℕ → List ℕ → Ending → Type 0
-Ends book read Whole = book ≡ read
-Ends book read (Bad f) = (book ≡ read ++ drop (length read) book) × Refused book (length read) f
+-- where the reading of a book ends: at its end, or behind these bytes where the next account is refused with this fault
+abbrev pub Ends : List ℕ → List ℕ → Option BookFault → Type 0
+Ends book read None = book ≡ read
+Ends book read (Some f) = (book ≡ read ++ drop (length read) book) × Refused book (length read) f
 
 -- The book begins with the bytes of lawful accounts, one after another; the listing has the five numbers of each, in
 -- order, and the reading ended behind them.
-pub record Listed (book : List ℕ) (heads : List AccountHead) (ending : Ending) : Type 0 where
+pub record Listed (book : List ℕ) (heads : List AccountHead) (ending : Option BookFault) : Type 0 where
   pub accounts : List Account
   pub lawfully : AllByRecursion (λ a. lawful a ≡ true) accounts
   pub listed : heads ≡ map head_of accounts
   pub ends : Ends book (flat_map bytes_of accounts) ending
 
 -- the list after the reading is the list before it with the listing behind
-pub record ListedBehind (before after : List AccountHead) (book : List ℕ) (ending : Ending) : Type 0 where
+pub record ListedBehind (before after : List AccountHead) (book : List ℕ) (ending : Option BookFault) : Type 0 where
   pub heads : List AccountHead
   pub behind : after ≡ before ++ heads
   pub listed : Listed book heads ending
@@ -56,9 +54,9 @@ abbrev pub head_line : AccountHead → List ℕ
 head_line h = head_text h ++ line_break
 
 -- `end` and the number of accounts, or `bad`, the refusal's number and the place of the refused account
-abbrev pub ending_line : ℕ → Ending → List ℕ
-ending_line count Whole = codes "end " ++ (decimal count ++ line_break)
-ending_line count (Bad f) = codes "bad " ++ spaced (number_of f.fault.refusal) (decimal f.start ++ line_break)
+abbrev pub ending_line : ℕ → Option BookFault → List ℕ
+ending_line count None = codes "end " ++ (decimal count ++ line_break)
+ending_line count (Some f) = codes "bad " ++ spaced (number_of f.fault.refusal) (decimal f.start ++ line_break)
 
-abbrev pub listing_text : List AccountHead → Ending → List ℕ
+abbrev pub listing_text : List AccountHead → Option BookFault → List ℕ
 listing_text heads ending = flat_map head_line heads ++ ending_line (length heads) ending

@@ -1,5 +1,5 @@
 -- Numbers as bytes, highest first, records one after another, and the exclusive-or of bytes.
-use Rattle.std.specs.Prelude.{◌≡◌, ℕ, zero, suc, ◌+◌, ◌*◌, ◌/◌, ◌%◌, ◌^◌, ◌<◌, List, [], ◌∷◌, ◌++◌, length, take, drop, fold, bit_xor, slice_index, slice_set}
+use Rattle.std.specs.Prelude.{◌≡◌, ℕ, zero, suc, ◌*◌, ◌/◌, ◌%◌, ◌^◌, ◌<◌, List, [], ◌∷◌, ◌++◌, length, take, drop, fold, bit_xor, slice_index, slice_set}
 use Rattle.std.specs.Int.Digits.{number_from_digits}
 
 -- the lowest k bytes of n, highest first
@@ -27,7 +27,3 @@ TellsOneChange bs = (i b : ℕ) → i < length bs → exclusive_or (slice_set bs
 -- a list whose first elements are replaced by these
 abbrev pub overwritten : {X : Type 0} → List X → List X → List X
 overwritten new old = new ++ drop (length new) old
-
--- a list in which these elements stand from a place on
-abbrev pub placed : {X : Type 0} → ℕ → List X → List X → List X
-placed at new old = take at old ++ (new ++ drop (at + length new) old)

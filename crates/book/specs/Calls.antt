@@ -1,8 +1,7 @@
 -- What the writer and the reader answer, and what they leave in the memory that is handed to them.
-use Rattle.std.specs.Prelude.{ℕ, ◌+◌, cond, ◌&&◌, List, [], length, drop, is_ok, Ok, Err, Result, nat_le}
+use Rattle.std.specs.Prelude.{ℕ, ◌+◌, if◌then◌else◌, ◌&&◌, List, [], length, drop, is_ok, Ok, Err, Result, nat_le}
 use Rattle.snapshot.specs.Accounts.{Account, head_of, lawful}
 use Rattle.snapshot.specs.Refusals.{book_fault}
-use Rattle.snapshot.specs.declared.account.AccountHead.{AccountHead}
 use Rattle.snapshot.specs.declared.account.ChainReading.{ChainReading}
 use Rattle.snapshot.specs.declared.account.Write.{Write}
 use Rattle.snapshot.specs.declared.fault.BookFault.{BookFault}
@@ -23,7 +22,7 @@ writing a room = check (lawful a) Unlawful (check (nat_le (length (bytes_of a)) 
 
 -- the buffer begins with the account's bytes where it was accepted, and is as it was where not
 abbrev pub buffer_after : Account → List ℕ → List ℕ
-buffer_after a old = cond (is_ok (writing a (length old))) (overwritten (bytes_of a) old) old
+buffer_after a old = if is_ok (writing a (length old)) then overwritten (bytes_of a) old else old
 
 -- Reading: the account at a place of the book, for lists with room for n readings and m writes. Past the end of the book
 -- there are no bytes.
@@ -36,11 +35,6 @@ front_for n m (Err e) = Err e
 
 abbrev pub read_at : List ℕ → ℕ → ℕ → ℕ → Result Account Refusal
 read_at book start n m = front_for n m (front_account (drop start book))
-
--- the account's five numbers
-abbrev pub headed : Result Account Refusal → Result AccountHead Refusal
-headed (Ok a) = Ok (head_of a)
-headed (Err e) = Err e
 
 -- the account's five numbers, and the place after its bytes
 abbrev pub located : ℕ → Result Account Refusal → Result AccountAt Refusal

@@ -1,14 +1,14 @@
 -- The bytes of an account, and the account that bytes tell.
-use Rattle.std.specs.Prelude.{ℕ, ◌+◌, ◌-◌, ◌*◌, Bool, cond, ◌&&◌, List, [], ◌∷◌, ◌++◌, length, take, drop, Ok, Err, Result, ◌==◌, nat_le, slice_index}
+use Rattle.std.specs.Prelude.{ℕ, ◌+◌, ◌-◌, ◌*◌, Bool, if◌then◌else◌, ◌&&◌, List, [], ◌∷◌, ◌++◌, length, take, drop, Ok, Err, Result, ◌==◌, nat_le, slice_index}
 use Rattle.std.specs.List.{flat_map}
 use Rattle.snapshot.specs.Accounts.{Account, lawful}
 use Rattle.snapshot.specs.Limits.{chain_readings, write_keys}
 use Rattle.snapshot.specs.declared.account.ChainReading.{ChainReading}
 use Rattle.snapshot.specs.declared.account.Reading.{Reading}
 use Rattle.snapshot.specs.declared.account.Write.{Write}
-use Rattle.snapshot.specs.declared.interval.Interval.{Interval}
 use Rattle.snapshot.specs.declared.fault.Refusal.{Refusal}
 use Rattle.snapshot.specs.declared.fault.Refusal.TheVariants.{AccountCut, WrongMark, WrongLastByte, Unlawful}
+use Rattle.book.specs.declared.account.Account.{Account as Told}
 use Rattle.book.specs.declared.reader.Counts.{Counts}
 use Rattle.book.specs.Bytes.{big_endian, number_at, records_from, exclusive_or}
 
@@ -22,9 +22,16 @@ write_size = 5
 abbrev pub head_size : ℕ
 head_size = 28
 
--- an account from its ends, its timestamp and its two lists
-abbrev pub whole : Interval → ℕ → List ChainReading → List Write → Account
-whole i t rs ws = record { low = i.low; high = i.high; timestamp = t; readings = rs; writes = ws }
+-- the account that a value of the code tells
+abbrev pub told : Told → Account
+told a =
+    record {
+      low = a.interval.low;
+      high = a.interval.high;
+      timestamp = a.timestamp;
+      readings = a.readings.now;
+      writes = a.writes.now;
+    }
 
 -- Writing.
 
@@ -94,7 +101,7 @@ account_from bs =
 
 -- refused unless the test holds
 abbrev pub check : {X : Type 0} → Bool → Refusal → Result X Refusal → Result X Refusal
-check ok e rest = cond ok rest (Err e)
+check ok e rest = if ok then rest else Err e
 
 -- the bytes of one account stand at the front: its two counts are in range, it is whole, and its last byte is right
 abbrev pub framed : {X : Type 0} → List ℕ → Result X Refusal → Result X Refusal

@@ -20,6 +20,11 @@ ReadsBackAnywhere a =
     (before rest : List ℕ) (n m : ℕ) → length a.readings ≤ n → length a.writes ≤ m
     → read_at (before ++ (bytes_of a ++ rest)) (length before) n m ≡ Ok a
 
+-- the account is lawful, and the bytes are its bytes with others behind
+pub record IsWritten (bs : List ℕ) (a : Account) : Type 0 where
+  pub front : bs ≡ bytes_of a ++ drop (length (bytes_of a)) bs
+  pub lawfully : lawful a ≡ true
+
 -- what the reader accepts: the answered numbers and the filled lists tell a lawful account, its bytes stand at that place
 -- of the book, and the answered place is the one after them, as far on as the two counts say
 pub record Accepted (book : List ℕ) (start : ℕ) (at : AccountAt) (rs : List ChainReading) (ws : List Write) : Type 0 where

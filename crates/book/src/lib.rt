@@ -1,8 +1,8 @@
 // The book of accounts: an account's bytes, written and read, and the reading of a whole book.
 #![tactic(auto)]
 
-mod bytes;
-pub mod lawful;
+pub mod account;
+mod lawful;
 pub mod listing;
 mod packed;
 pub mod reader;

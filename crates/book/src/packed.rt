@@ -1,126 +1,129 @@
-// Records of a fixed size, packed one after another.
-ghost use Rattle.std.specs.Prelude.{◌≡◌, ℕ, ◌+◌, ◌*◌, ◌≤◌, List, length, drop};
+// Records of a fixed size, packed one after another, and where the parts of an account begin.
+ghost use Rattle.std.specs.Prelude.{◌≡◌, ℕ, ◌+◌, ◌*◌, ◌≤◌, List, length, refl};
 ghost use Rattle.std.specs.List.{flat_map};
-ghost use Rattle.book.specs.Bytes.{placed, records_from};
-ghost use Rattle.book.specs.Format.{reading_bytes, reading_from, reading_size, write_bytes, write_from, write_size};
-ghost use Rattle.std.proofs.Common.{rules};
+ghost use Rattle.snapshot.specs.Limits.{chain_readings, write_keys};
+ghost use Rattle.book.specs.Bytes.{overwritten, records_from};
+ghost use Rattle.book.specs.Format.{head_size, reading_bytes, reading_from, reading_size, size_of, write_bytes, write_from, write_size};
 
-use crate::bytes::{put_u32, put_u64, u32_at, u64_at};
+use byteorder::{BigEndian, ByteOrder};
 use snapshot::account::{ChainReading, Reading, Write};
 
-// How many bytes a reading, a write, and what stands before them take.
-pub(crate) const READING_SIZE: usize = 22;
-
-pub(crate) const WRITE_SIZE: usize = 5;
-
+// How many bytes stand before the readings.
 pub(crate) const HEAD_SIZE: usize = 28;
+
+// How many bytes stand before the writes of an account with so many readings.
+pub(crate) fn writes_place(readings: usize) -> usize
+    requires { readings ≤ chain_readings }
+    ensures { result ≡ head_size + reading_size * readings }
+{
+    HEAD_SIZE + ChainReading::SIZE * readings
+}
+
+// How many bytes an account of so many readings and writes has.
+pub(crate) fn account_size(readings: usize, writes: usize) -> usize
+    requires { (readings ≤ chain_readings) × (writes ≤ write_keys) }
+    ensures { result ≡ size_of readings writes }
+{
+    writes_place(readings) + Write::SIZE * writes + 1
+}
 
 // A record that has always the same number of bytes.
 pub(crate) trait Packed: Sized {
-    ghost size: { ℕ };
+    ghost SIZE: { ℕ };
 
-    ghost pack: { Self → List ℕ };
+    ghost packed: { Self → List ℕ };
 
-    ghost unpack: { List ℕ → Self };
+    ghost unpacked: { List ℕ → Self };
 
-    fn size() -> usize
-        ensures { result ≡ size };
+    ghost sized: { (x : Self) → length (packed x) ≡ SIZE };
 
-    // Puts the record's bytes into the buffer from a place on.
-    fn put(&self, buffer: &mut [u8], at: usize)
-        requires { at + size ≤ length buffer.old }
-        ensures { buffer.new ≡ placed at (pack self.now) buffer.old };
+    const SIZE: usize;
 
-    // The record at a place of the bytes.
-    fn get(bytes: &[u8], at: usize) -> Self
-        requires { at + size ≤ length bytes.now }
-        ensures { result ≡ unpack (drop at bytes.now) };
+    // Puts the record's bytes to the front of the room.
+    fn pack(&self, room: &mut [u8])
+        requires { SIZE ≤ length room.old }
+        ensures { room.new ≡ overwritten (packed self.now) room.old };
 
-    ghost sized: { (x : Self) → length (pack x) ≡ size };
+    // The record at the front of the bytes.
+    fn unpack(bytes: &[u8]) -> Self
+        requires { SIZE ≤ length bytes.now }
+        ensures { result ≡ unpacked bytes.now };
 }
 
 impl Packed for ChainReading {
-    ghost size = { reading_size };
+    ghost SIZE = { reading_size };
 
-    ghost pack = { reading_bytes };
+    ghost packed = { reading_bytes };
 
-    ghost unpack = { reading_from };
+    ghost unpacked = { reading_from };
 
-    ghost sized = { Prim.search rules };
+    ghost sized = { λ _. refl };
 
-    fn size() -> usize {
-        READING_SIZE
+    const SIZE: usize = 22;
+
+    fn pack(&self, room: &mut [u8]) {
+        room[0] = self.worker;
+        room[1] = self.key;
+        BigEndian::write_u32(&mut room[2..], self.reading.value);
+        BigEndian::write_u64(&mut room[6..], self.reading.timestamp);
+        BigEndian::write_u64(&mut room[14..], self.reading.promise);
     }
 
-    fn put(&self, buffer: &mut [u8], at: usize) {
-        buffer[at] = self.worker;
-        buffer[at + 1] = self.key;
-        put_u32(buffer, at + 2, self.reading.value);
-        put_u64(buffer, at + 6, self.reading.timestamp);
-        put_u64(buffer, at + 14, self.reading.promise);
-    }
-
-    fn get(bytes: &[u8], at: usize) -> ChainReading {
+    fn unpack(bytes: &[u8]) -> ChainReading {
         ChainReading {
-            worker: bytes[at],
-            key: bytes[at + 1],
+            worker: bytes[0],
+            key: bytes[1],
             reading: Reading {
-                value: u32_at(bytes, at + 2),
-                timestamp: u64_at(bytes, at + 6),
-                promise: u64_at(bytes, at + 14),
+                value: BigEndian::read_u32(&bytes[2..]),
+                timestamp: BigEndian::read_u64(&bytes[6..]),
+                promise: BigEndian::read_u64(&bytes[14..]),
             },
         }
     }
 }
 
 impl Packed for Write {
-    ghost size = { write_size };
+    ghost SIZE = { write_size };
 
-    ghost pack = { write_bytes };
+    ghost packed = { write_bytes };
 
-    ghost unpack = { write_from };
+    ghost unpacked = { write_from };
 
-    ghost sized = { Prim.search rules };
+    ghost sized = { λ _. refl };
 
-    fn size() -> usize {
-        WRITE_SIZE
+    const SIZE: usize = 5;
+
+    fn pack(&self, room: &mut [u8]) {
+        room[0] = self.key;
+        BigEndian::write_u32(&mut room[1..], self.value);
     }
 
-    fn put(&self, buffer: &mut [u8], at: usize) {
-        buffer[at] = self.key;
-        put_u32(buffer, at + 1, self.value);
-    }
-
-    fn get(bytes: &[u8], at: usize) -> Write {
+    fn unpack(bytes: &[u8]) -> Write {
         Write {
-            key: bytes[at],
-            value: u32_at(bytes, at + 1),
+            key: bytes[0],
+            value: BigEndian::read_u32(&bytes[1..]),
         }
     }
 }
 
-// Puts records one after another into the buffer from a place on, and answers the place after them.
-pub(crate) fn put_all<T: Packed>(records: &[T], buffer: &mut [u8], at: usize) -> usize
-    requires { at + T.size * length records.now ≤ length buffer.old }
-    ensures place { result ≡ at + T.size * length records.now }
-    ensures bytes { buffer.new ≡ placed at (flat_map T.pack records.now) buffer.old }
+// Puts records one after another to the front of the room.
+pub(crate) fn pack_all<T: Packed>(records: &[T], room: &mut [u8])
+    requires { T.SIZE * length records.now ≤ length room.old }
+    ensures { room.new ≡ overwritten (flat_map T.packed records.now) room.old }
 {
-    let mut place = at;
-    for record in records {
-        record.put(buffer, place);
-        place += T::size();
+    for (i, record) in records.iter().enumerate() {
+        record.pack(&mut room[T::SIZE * i..]);
     }
-    place
 }
 
-// Fills the list with the records that stand one after another from a place on.
-pub(crate) fn get_all<T: Packed + Drop>(bytes: &[u8], at: usize, into: &mut [T])
-    requires { at + T.size * length into.old ≤ length bytes.now }
-    ensures { into.new ≡ records_from T.unpack T.size (length into.old) (drop at bytes.now) }
+// Fills the list with the records that stand one after another at the front of the bytes.
+pub(crate) fn unpack_all<T: Packed + Drop>(bytes: &[u8], into: &mut [T])
+    requires { T.SIZE * length into.old ≤ length bytes.now }
+    ensures { into.new ≡ records_from T.unpacked T.SIZE (length into.old) bytes.now }
 {
-    let mut place = at;
+    let mut rest = bytes;
     for record in into.iter_mut() {
-        *record = T::get(bytes, place);
-        place += T::size();
+        *record = T::unpack(rest);
+        rest = &rest[T::SIZE..];
     }
 }

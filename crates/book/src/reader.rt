@@ -1,20 +1,22 @@
 // Reading an account at a place of a book into two lists of the caller's.
-ghost use Rattle.std.specs.Prelude.{◌≡◌, ◌≤◌, length, drop, IfOk, Ok};
+ghost use Rattle.std.specs.Prelude.{◌≡◌, ◌+◌, ◌^◌, ◌<◌, ◌≤◌, true, length, drop, IfOk, Ok};
+ghost use Rattle.snapshot.specs.Accounts.{head_of, lawful};
 ghost use Rattle.snapshot.specs.Limits.{chain_readings, write_keys};
 ghost use Rattle.book.specs.Bytes.{overwritten};
-ghost use Rattle.book.specs.Calls.{faulted, front_for, headed, located, read_at, readings_of, writes_of};
-ghost use Rattle.book.specs.Format.{counts_in, framed, front_account, lawful_only, size_of, whole};
-ghost use Rattle.book.specs.Theorems.{AcceptedOnly};
+ghost use Rattle.book.specs.Calls.{faulted, located, read_at, readings_of, writes_of};
+ghost use Rattle.book.specs.Format.{account_from, bytes_of, counts_in, framed, front_account, size_of, told};
+ghost use Rattle.book.specs.Theorems.{AcceptedOnly, IsWritten};
 
-use crate::bytes::u64_at;
-use crate::lawful::is_lawful;
-use crate::packed::{HEAD_SIZE, READING_SIZE, get_all};
+use crate::account::Account;
+use crate::packed::{HEAD_SIZE, account_size, unpack_all, writes_place};
 use crate::sum::last_byte;
-use crate::writer::{MARK, account_size};
+use crate::writer::MARK;
+use byteorder::{BigEndian, ByteOrder};
 use snapshot::account::{AccountHead, ChainReading, NO_READING, NO_WRITE, Write};
 use snapshot::fault::{BookFault, Refusal};
 use snapshot::interval::Interval;
 use snapshot::limits::{CHAIN_READINGS, WRITE_KEYS};
+use std::marker::Model;
 
 // An account's five numbers, and the place after its bytes.
 #[derive(Clone, Copy, PartialEq, Eq, Debug)]
@@ -28,6 +30,56 @@ pub struct AccountAt {
 pub(crate) struct Counts {
     readings: usize,
     writes: usize,
+}
+
+// An account with memory of its own: the first elements of its two lists, as many as the counts say.
+#[derive(Drop)]
+pub(crate) struct Stored {
+    interval: Interval,
+    timestamp: u64,
+    readings: [ChainReading; CHAIN_READINGS],
+    writes: [Write; WRITE_KEYS],
+    counts: Counts,
+}
+
+impl Model for Stored {
+    ghost use Rattle.std.specs.Prelude.{◌≤◌, take};
+    ghost use Rattle.snapshot.specs.Accounts.{Account};
+    ghost use Rattle.snapshot.specs.Limits.{chain_readings, write_keys};
+
+    ghost Value = { Account };
+
+    ghost view = { λ s. record { low = s.interval.low; high = s.interval.high; timestamp = s.timestamp; readings = take s.counts.readings s.readings; writes = take s.counts.writes s.writes } };
+
+    ghost invariant = { λ s. (s.counts.readings ≤ chain_readings) × (s.counts.writes ≤ write_keys) };
+}
+
+impl Stored {
+    pub(crate) fn account(&self) -> Account<'_>
+        ensures { told result ≡ self.now }
+    {
+        Account {
+            interval: self.interval,
+            timestamp: self.timestamp,
+            readings: &self.readings[..self.counts.readings],
+            writes: &self.writes[..self.counts.writes],
+        }
+    }
+}
+
+impl Account<'_> {
+    // The five numbers, and the place after the bytes of the account where they begin at this one.
+    pub(crate) fn located(&self, start: usize) -> AccountAt
+        requires lawfully { lawful (told self.now) ≡ true }
+        requires fits { start + length (bytes_of (told self.now)) < 2 ^ 64 }
+        ensures head { result.head ≡ head_of (told self.now) }
+        ensures end { result.end ≡ start + length (bytes_of (told self.now)) }
+    {
+        AccountAt {
+            head: self.head(),
+            end: start + self.size(),
+        }
+    }
 }
 
 // Reads the account at this place of the book into the starts of the two lists, and answers its five numbers and the
@@ -44,70 +96,35 @@ pub fn read_account(
     ensures writes { writes.new ≡ overwritten (writes_of (read_at book.now start (length readings.old) (length writes.old))) writes.old }
     ensures written { AcceptedOnly book.now start result readings.new writes.new }
 {
-    match read_front(from_place(book, start), readings, writes) {
-        Ok(head) => Ok(AccountAt {
-            head,
-            end: start + account_size(head.readings, head.writes),
-        }),
-        Err(refusal) => Err(BookFault::new(refusal, start)),
+    let stored = account_at(book, start)?;
+    let account = stored.account();
+    if readings.len() < account.readings.len() || writes.len() < account.writes.len() {
+        return Err(BookFault::new(Refusal::TooShort, start));
     }
+    fill(readings, account.readings);
+    fill(writes, account.writes);
+    Ok(account.located(start))
 }
 
-// Reads the account at the front of the bytes into the starts of the two lists.
-fn read_front(
-    bytes: &[u8],
-    readings: &mut [ChainReading],
-    writes: &mut [Write],
-) -> Result<AccountHead, Refusal>
-    ensures value { result ≡ headed (front_for (length readings.old) (length writes.old) (front_account bytes.now)) }
-    ensures readings { readings.new ≡ overwritten (readings_of (front_for (length readings.old) (length writes.old) (front_account bytes.now))) readings.old }
-    ensures writes { writes.new ≡ overwritten (writes_of (front_for (length readings.old) (length writes.old) (front_account bytes.now))) writes.old }
+// The account at this place of the book.
+#[tactic(auto, using(crate::proofs::Reading::accepted_at))]
+pub(crate) fn account_at(book: &[u8], start: usize) -> Result<Stored, BookFault>
+    ensures value { result ≡ faulted start (front_account (drop start book.now)) }
+    ensures written { IfOk result (IsWritten (drop start book.now)) }
 {
-    let Counts {
-        readings: n,
-        writes: m,
-    } = check_frame(bytes)?;
-    let mut all_readings = [NO_READING; CHAIN_READINGS];
-    let mut all_writes = [NO_WRITE; WRITE_KEYS];
-    let found = &mut all_readings[0..n];
-    let written = &mut all_writes[0..m];
-    get_all(bytes, HEAD_SIZE, found);
-    get_all(bytes, HEAD_SIZE + READING_SIZE * n, written);
-    let interval = Interval {
-        low: u64_at(bytes, 4),
-        high: u64_at(bytes, 12),
-    };
-    let timestamp = u64_at(bytes, 20);
-    hand_over(interval, timestamp, found, written, readings, writes)
+    front_account(from_place(book, start)).map_err(|refusal| BookFault::new(refusal, start))
 }
 
-// Hands a lawful account over to two lists that have room for it.
-fn hand_over(
-    interval: Interval,
-    timestamp: u64,
-    found: &[ChainReading],
-    written: &[Write],
-    readings: &mut [ChainReading],
-    writes: &mut [Write],
-) -> Result<AccountHead, Refusal>
-    ensures value { result ≡ headed (front_for (length readings.old) (length writes.old) (lawful_only (whole interval timestamp found.now written.now))) }
-    ensures readings { readings.new ≡ overwritten (readings_of (front_for (length readings.old) (length writes.old) (lawful_only (whole interval timestamp found.now written.now)))) readings.old }
-    ensures writes { writes.new ≡ overwritten (writes_of (front_for (length readings.old) (length writes.old) (lawful_only (whole interval timestamp found.now written.now)))) writes.old }
+// The account at the front of the bytes.
+fn front_account(bytes: &[u8]) -> Result<Stored, Refusal>
+    ensures { result ≡ front_account bytes.now }
 {
-    if !is_lawful(interval, timestamp, found, written) {
+    let counts = check_frame(bytes)?;
+    let stored = decode(bytes, counts);
+    if !stored.account().is_lawful() {
         return Err(Refusal::Unlawful);
     }
-    if readings.len() < found.len() || writes.len() < written.len() {
-        return Err(Refusal::TooShort);
-    }
-    fill(readings, found);
-    fill(writes, written);
-    Ok(AccountHead {
-        interval,
-        timestamp,
-        readings: found.len(),
-        writes: written.len(),
-    })
+    Ok(stored)
 }
 
 // The counts of the account at the front of the bytes; refused where the account is cut short, its mark or its last byte
@@ -119,11 +136,11 @@ fn check_frame(bytes: &[u8]) -> Result<Counts, Refusal>
     let [first, second, n, m, rest @ ..] = bytes else {
         return Err(Refusal::AccountCut);
     };
-    if *first != MARK[0] || *second != MARK[1] {
+    if [*first, *second] != MARK {
         return Err(Refusal::WrongMark);
     }
-    let readings = *n as usize;
-    let writes = *m as usize;
+    let readings = usize::from(*n);
+    let writes = usize::from(*m);
     if readings > CHAIN_READINGS || writes > WRITE_KEYS {
         return Err(Refusal::Unlawful);
     }
@@ -131,21 +148,41 @@ fn check_frame(bytes: &[u8]) -> Result<Counts, Refusal>
     if rest.len() + 4 <= last {
         return Err(Refusal::AccountCut);
     }
-    if bytes[last] != last_byte(&bytes[0..last]) {
+    if bytes[last] != last_byte(&bytes[..last]) {
         return Err(Refusal::WrongLastByte);
     }
     Ok(Counts { readings, writes })
+}
+
+// The account that the bytes tell, each field at its place.
+fn decode(bytes: &[u8], counts: Counts) -> Stored
+    requires counts { counts ≡ counts_in bytes.now }
+    requires few { (counts.readings ≤ chain_readings) × (counts.writes ≤ write_keys) }
+    requires fits { size_of counts.readings counts.writes ≤ length bytes.now }
+    ensures { result ≡ account_from bytes.now }
+{
+    let mut readings = [NO_READING; CHAIN_READINGS];
+    let mut writes = [NO_WRITE; WRITE_KEYS];
+    unpack_all(&bytes[HEAD_SIZE..], &mut readings[..counts.readings]);
+    let behind = writes_place(counts.readings);
+    unpack_all(&bytes[behind..], &mut writes[..counts.writes]);
+    Stored {
+        interval: Interval {
+            low: BigEndian::read_u64(&bytes[4..]),
+            high: BigEndian::read_u64(&bytes[12..]),
+        },
+        timestamp: BigEndian::read_u64(&bytes[20..]),
+        readings,
+        writes,
+        counts,
+    }
 }
 
 // The bytes from a place on; none past the end.
 fn from_place(book: &[u8], start: usize) -> &[u8]
     ensures { result.now ≡ drop start book.now }
 {
-    if start <= book.len() {
-        &book[start..]
-    } else {
-        &book[0..0]
-    }
+    book.get(start..).unwrap_or(&[])
 }
 
 // Replaces the first elements of the list by these.
@@ -153,5 +190,5 @@ fn fill<T: Copy>(list: &mut [T], new: &[T])
     requires { length new.now ≤ length list.old }
     ensures { list.new ≡ overwritten new.now list.old }
 {
-    list[0..new.len()].copy_from_slice(new);
+    list[..new.len()].copy_from_slice(new);
 }

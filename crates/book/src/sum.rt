@@ -7,9 +7,5 @@ pub fn last_byte(body: &[u8]) -> u8
     ensures value { result ≡ exclusive_or body.now }
     ensures tells { TellsOneChange body.now }
 {
-    let mut sum = 0;
-    for byte in body {
-        sum ^= *byte;
-    }
-    sum
+    body.iter().fold(0, |sum, byte| sum ^ *byte)
 }

@@ -1,89 +1,67 @@
 // Writing an account into a buffer of the caller's.
-ghost use Rattle.std.specs.Prelude.{◌≡◌, ◌+◌, ◌*◌, ◌≤◌, true, length, is_ok};
-ghost use Rattle.snapshot.specs.Limits.{chain_readings, write_keys};
-ghost use Rattle.book.specs.Bytes.{placed};
+ghost use Rattle.std.specs.Prelude.{◌≡◌, ◌≤◌, true, length, is_ok};
+ghost use Rattle.snapshot.specs.Accounts.{lawful};
+ghost use Rattle.book.specs.Bytes.{overwritten};
 ghost use Rattle.book.specs.Calls.{buffer_after, faulted, writing};
-ghost use Rattle.book.specs.Format.{bytes_of, head_bytes, head_size, size_of, whole};
+ghost use Rattle.book.specs.Format.{bytes_of, head_bytes, head_size, told};
 ghost use Rattle.book.specs.Theorems.{ReadsBackAnywhere};
 
-use crate::bytes::{put_bytes, put_u64};
-use crate::lawful::is_lawful;
-use crate::packed::{HEAD_SIZE, READING_SIZE, WRITE_SIZE, put_all};
+use crate::account::Account;
+use crate::packed::{HEAD_SIZE, pack_all, writes_place};
 use crate::sum::last_byte;
-use snapshot::account::{ChainReading, Write};
+use byteorder::{BigEndian, ByteOrder};
 use snapshot::fault::{BookFault, Refusal};
-use snapshot::interval::Interval;
 
 // The two bytes with which an account begins.
 pub const MARK: [u8; 2] = [0xC3, 0x3C];
 
-// Writes the account to the start of the buffer and answers its length. Refuses an unlawful account, then a buffer that
-// is too short; a refusal leaves the buffer as it was.
-pub fn write_account(
-    interval: Interval,
-    timestamp: u64,
-    readings: &[ChainReading],
-    writes: &[Write],
-    buffer: &mut [u8],
-) -> Result<usize, BookFault>
-    ensures value { result ≡ faulted 0 (writing (whole interval timestamp readings.now writes.now) (length buffer.old)) }
-    ensures after { buffer.new ≡ buffer_after (whole interval timestamp readings.now writes.now) buffer.old }
-    ensures back { is_ok result ≡ true → ReadsBackAnywhere (whole interval timestamp readings.now writes.now) }
-{
-    if !is_lawful(interval, timestamp, readings, writes) {
-        return Err(BookFault::new(Refusal::Unlawful, 0));
+impl Account<'_> {
+    // Writes the account to the start of the buffer and answers its length. Refuses an unlawful account, then a buffer
+    // that is too short; a refusal leaves the buffer as it was.
+    pub fn write(&self, buffer: &mut [u8]) -> Result<usize, BookFault>
+        ensures value { result ≡ faulted 0 (writing (told self.now) (length buffer.old)) }
+        ensures after { buffer.new ≡ buffer_after (told self.now) buffer.old }
+        ensures back { is_ok result ≡ true → ReadsBackAnywhere (told self.now) }
+    {
+        if !self.is_lawful() {
+            return Err(BookFault::new(Refusal::Unlawful, 0));
+        }
+        let size = self.size();
+        if buffer.len() < size {
+            return Err(BookFault::new(Refusal::TooShort, 0));
+        }
+        self.put(buffer);
+        Ok(size)
     }
-    let size = account_size(readings.len(), writes.len());
-    if buffer.len() < size {
-        return Err(BookFault::new(Refusal::TooShort, 0));
+
+    // Puts the account's bytes to the start of the buffer.
+    #[tactic(auto, using(crate::proofs::RoundTrip::takes_its_size))]
+    fn put(&self, buffer: &mut [u8])
+        requires lawfully { lawful (told self.now) ≡ true }
+        requires fits { length (bytes_of (told self.now)) ≤ length buffer.old }
+        ensures { buffer.new ≡ overwritten (bytes_of (told self.now)) buffer.old }
+    {
+        self.put_head(buffer);
+        pack_all(self.readings, &mut buffer[HEAD_SIZE..]);
+        pack_all(
+            self.writes,
+            &mut buffer[writes_place(self.readings.len())..],
+        );
+        let last = self.size() - 1;
+        buffer[last] = last_byte(&buffer[..last]);
     }
-    put_account(interval, timestamp, readings, writes, buffer);
-    Ok(size)
-}
 
-// Puts the account's bytes to the start of the buffer.
-fn put_account(
-    interval: Interval,
-    timestamp: u64,
-    readings: &[ChainReading],
-    writes: &[Write],
-    buffer: &mut [u8],
-)
-    requires { (length readings.now ≤ chain_readings) × ((length writes.now ≤ write_keys) × (size_of (length readings.now) (length writes.now) ≤ length buffer.old)) }
-    ensures { buffer.new ≡ placed 0 (bytes_of (whole interval timestamp readings.now writes.now)) buffer.old }
-{
-    put_head(interval, timestamp, readings, writes, buffer);
-    let place = put_all(readings, buffer, HEAD_SIZE);
-    let last = put_all(writes, buffer, place);
-    let sum = last_byte(&buffer[0..last]);
-    buffer[last] = sum;
-}
-
-// How many bytes an account of so many readings and writes has.
-pub(crate) fn account_size(readings: usize, writes: usize) -> usize
-    requires { (readings ≤ chain_readings) × (writes ≤ write_keys) }
-    ensures { result ≡ size_of readings writes }
-{
-    HEAD_SIZE + 1 + READING_SIZE * readings + WRITE_SIZE * writes
-}
-
-// Puts the mark, the counts, low, high and timestamp before the readings.
-fn put_head(
-    interval: Interval,
-    timestamp: u64,
-    readings: &[ChainReading],
-    writes: &[Write],
-    buffer: &mut [u8],
-)
-    requires { (length readings.now ≤ chain_readings) × ((length writes.now ≤ write_keys) × (head_size ≤ length buffer.old)) }
-    ensures { buffer.new ≡ placed 0 (head_bytes (whole interval timestamp readings.now writes.now)) buffer.old }
-{
-    put_bytes(
-        buffer,
-        0,
-        &[MARK[0], MARK[1], readings.len() as u8, writes.len() as u8],
-    );
-    put_u64(buffer, 4, interval.low);
-    put_u64(buffer, 12, interval.high);
-    put_u64(buffer, 20, timestamp);
+    // Puts the mark, the counts, low, high and timestamp before the readings.
+    fn put_head(&self, buffer: &mut [u8])
+        requires lawfully { lawful (told self.now) ≡ true }
+        requires fits { head_size ≤ length buffer.old }
+        ensures { buffer.new ≡ overwritten (head_bytes (told self.now)) buffer.old }
+    {
+        buffer[..2].copy_from_slice(&MARK);
+        buffer[2] = self.readings.len() as u8;
+        buffer[3] = self.writes.len() as u8;
+        BigEndian::write_u64(&mut buffer[4..], self.interval.low);
+        BigEndian::write_u64(&mut buffer[12..], self.interval.high);
+        BigEndian::write_u64(&mut buffer[20..], self.timestamp);
+    }
 }

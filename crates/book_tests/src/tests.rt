@@ -1,9 +1,9 @@
 // Tests of the book's writer and reader: what is written, every refusal with its number and place, and the order of checks.
+use book::account::Account;
 use book::listing::{listing_text, read_book};
 use book::reader::read_account;
 use book::sum::last_byte;
-use book::writer::write_account;
-use snapshot::account::{ChainReading, NO_READING, NO_WRITE, Reading, Write};
+use snapshot::account::{AccountHead, ChainReading, NO_READING, NO_WRITE, Reading, Write};
 use snapshot::fault::{BookFault, Layer};
 use snapshot::interval::Interval;
 use std::process::Abort;
@@ -11,14 +11,14 @@ use std::test::Fail;
 
 const OPEN_END: u64 = 281_474_976_710_656;
 
-// The bytes of the account with no readings and no writes: mark and counts, low, high, timestamp, last byte.
+// The bytes of `EMPTY`: mark and counts, low, high, timestamp, last byte.
 const SHORTEST: [u8; 29] = *b"\xC3\x3C\x00\x00\
     \x00\x00\x00\x00\x00\x00\x00\x00\
     \x00\x01\x00\x00\x00\x00\x00\x00\
     \x00\x00\x00\x00\x00\x00\x00\x00\
     \xFE";
 
-// The bytes of `lawful_sample`: mark and counts, low, high, timestamp, three readings, two writes, last byte.
+// The bytes of `SAMPLE`: mark and counts, low, high, timestamp, three readings, two writes, last byte.
 const SAMPLE_BYTES: [u8; 105] = *b"\xC3\x3C\x03\x02\
     \x00\x00\x00\x00\x00\x00\x00\x14\
     \x00\x00\x00\x00\x00\x00\x00\x1E\
@@ -30,15 +30,56 @@ const SAMPLE_BYTES: [u8; 105] = *b"\xC3\x3C\x03\x02\
     \x28\x00\x00\x00\x06\
     \xCF";
 
+const SAMPLE_READINGS: [ChainReading; 3] = [
+    ChainReading {
+        worker: 3,
+        key: 7,
+        reading: Reading {
+            value: 1,
+            timestamp: 10,
+            promise: 40,
+        },
+    },
+    ChainReading {
+        worker: 1,
+        key: 9,
+        reading: Reading {
+            value: 4_294_967_295,
+            timestamp: 20,
+            promise: 50,
+        },
+    },
+    ChainReading {
+        worker: 7,
+        key: 63,
+        reading: Reading {
+            value: 256,
+            timestamp: 15,
+            promise: 30,
+        },
+    },
+];
+
+const SAMPLE_WRITES: [Write; 2] = [Write { key: 2, value: 5 }, Write { key: 40, value: 6 }];
+
 // A lawful account of three readings and two writes.
-#[derive(Clone, Copy)]
-struct Sample {
-    low: u64,
-    high: u64,
-    timestamp: u64,
-    readings: [ChainReading; 3],
-    writes: [Write; 2],
-}
+const SAMPLE: Account<'static> = Account {
+    interval: Interval { low: 20, high: 30 },
+    timestamp: 51,
+    readings: &SAMPLE_READINGS,
+    writes: &SAMPLE_WRITES,
+};
+
+// The account of a chain that read and wrote nothing.
+const EMPTY: Account<'static> = Account {
+    interval: Interval {
+        low: 0,
+        high: OPEN_END,
+    },
+    timestamp: 0,
+    readings: &[],
+    writes: &[],
+};
 
 fn made(worker: u8, key: u8, value: u32, timestamp: u64, promise: u64) -> ChainReading {
     ChainReading {
@@ -57,34 +98,6 @@ fn held(key: u8) -> Write {
         key,
         value: 4_294_967_295,
     }
-}
-
-fn lawful_sample() -> Sample {
-    Sample {
-        low: 20,
-        high: 30,
-        timestamp: 51,
-        readings: [
-            made(3, 7, 1, 10, 40),
-            made(1, 9, 4_294_967_295, 20, 50),
-            made(7, 63, 256, 15, 30),
-        ],
-        writes: [Write { key: 2, value: 5 }, Write { key: 40, value: 6 }],
-    }
-}
-
-fn write(account: &Sample, buffer: &mut [u8]) -> Result<usize, BookFault> {
-    let interval = Interval {
-        low: account.low,
-        high: account.high,
-    };
-    write_account(
-        interval,
-        account.timestamp,
-        &account.readings,
-        &account.writes,
-        buffer,
-    )
 }
 
 // The call was refused by the book, with this number and byte place, and names no place, leg or key.
@@ -114,12 +127,7 @@ fn refused<T: Drop>(
 #[test]
 fn shortest_account_is_written(rt: HostRuntime) {
     let mut buffer = [7u8; 31];
-    let interval = Interval {
-        low: 0,
-        high: OPEN_END,
-    };
-    let answer = write_account(interval, 0, &[], &[], &mut buffer);
-    assert_eq!(rt; answer.ok(), Some(29));
+    assert_eq!(rt; EMPTY.write(&mut buffer).ok(), Some(29));
     assert_eq!(rt; &buffer[0..29], &SHORTEST[..]);
     assert_eq!(rt; &buffer[29..31], &[7, 7][..]);
 }
@@ -127,7 +135,7 @@ fn shortest_account_is_written(rt: HostRuntime) {
 #[test]
 fn sample_is_written(rt: HostRuntime) {
     let mut buffer = [0u8; 105];
-    assert_eq!(rt; write(&lawful_sample(), &mut buffer).ok(), Some(105));
+    assert_eq!(rt; SAMPLE.write(&mut buffer).ok(), Some(105));
     assert_eq!(rt; &buffer[..], &SAMPLE_BYTES[..]);
 }
 
@@ -135,22 +143,16 @@ fn sample_is_written(rt: HostRuntime) {
 fn longest_account_comes_back(rt: HostRuntime) -> Result<(), Fail> {
     let mut readings = [made(7, 63, 4_294_967_295, 5, 9); 32];
     readings[31] = made(0, 1, 2, 8, 8);
-    let writes = [
-        held(0),
-        held(1),
-        held(2),
-        held(3),
-        held(4),
-        held(5),
-        held(62),
-        held(63),
-    ];
+    let writes = [0, 1, 2, 3, 4, 5, 62, 63].map(held);
     let interval = Interval { low: 8, high: 8 };
+    let account = Account {
+        interval,
+        timestamp: 10,
+        readings: &readings,
+        writes: &writes,
+    };
     let mut buffer = [7u8; 774];
-    assert_eq!(rt;
-        write_account(interval, 10, &readings, &writes, &mut buffer).ok(),
-        Some(773)
-    );
+    assert_eq!(rt; account.write(&mut buffer).ok(), Some(773));
     assert_eq!(rt; buffer[773], 7);
     let mut read_readings = [NO_READING; 32];
     let mut read_writes = [NO_WRITE; 8];
@@ -158,14 +160,14 @@ fn longest_account_comes_back(rt: HostRuntime) -> Result<(), Fail> {
         return Err(Fail::new("not read"));
     };
     assert_eq!(rt; read.end, 773);
-    assert_eq!(rt; read.head.interval, interval);
     assert_eq!(rt;
-        [
-            read.head.timestamp as usize,
-            read.head.readings,
-            read.head.writes,
-        ],
-        [10, 32, 8]
+        read.head,
+        AccountHead {
+            interval,
+            timestamp: 10,
+            readings: 32,
+            writes: 8,
+        }
     );
     assert!(rt; read_readings == readings);
     assert!(rt; read_writes == writes);
@@ -173,156 +175,111 @@ fn longest_account_comes_back(rt: HostRuntime) -> Result<(), Fail> {
 }
 
 // Writing this account is refused as unlawful, also into a buffer that is too short, and the buffer stays.
-fn is_unlawful(rt: &impl Abort, account: &Sample) -> Result<(), Fail> {
+fn is_unlawful(rt: &impl Abort, account: Account<'_>) -> Result<(), Fail> {
     let mut buffer = [7u8; 105];
-    refused(rt, write(account, &mut buffer), 21, 0)?;
+    refused(rt, account.write(&mut buffer), 21, 0)?;
     assert!(rt; buffer == [7u8; 105]);
-    refused(rt, write(account, &mut []), 21, 0)
+    refused(rt, account.write(&mut []), 21, 0)
 }
 
 #[test]
 fn unlawful_accounts_are_not_written(rt: HostRuntime) -> Result<(), Fail> {
-    let good = lawful_sample();
-    is_unlawful(&rt, &Sample { low: 19, ..good })?;
-    is_unlawful(&rt, &Sample { low: 21, ..good })?;
-    is_unlawful(&rt, &Sample { high: 29, ..good })?;
-    is_unlawful(&rt, &Sample { high: 31, ..good })?;
-    is_unlawful(
-        &rt,
-        &Sample {
-            timestamp: 0,
-            ..good
-        },
-    )?;
-    is_unlawful(
-        &rt,
-        &Sample {
-            timestamp: 50,
-            ..good
-        },
-    )?;
-    is_unlawful(
-        &rt,
-        &Sample {
-            timestamp: OPEN_END,
-            ..good
-        },
-    )
+    for (low, high) in [(19, 30), (21, 30), (20, 29), (20, 31)] {
+        let interval = Interval { low, high };
+        is_unlawful(&rt, Account { interval, ..SAMPLE })?;
+    }
+    for timestamp in [0, 50, OPEN_END] {
+        is_unlawful(
+            &rt,
+            Account {
+                timestamp,
+                ..SAMPLE
+            },
+        )?;
+    }
+    Ok(())
 }
 
 #[test]
 fn unlawful_readings_are_not_written(rt: HostRuntime) -> Result<(), Fail> {
-    let good = lawful_sample();
-    let [first, second, third] = good.readings;
+    let [first, second, third] = SAMPLE_READINGS;
     let worker = [made(8, 7, 1, 10, 40), second, third];
     is_unlawful(
         &rt,
-        &Sample {
-            readings: worker,
-            ..good
+        Account {
+            readings: &worker,
+            ..SAMPLE
         },
     )?;
     let key = [made(3, 64, 1, 10, 40), second, third];
     is_unlawful(
         &rt,
-        &Sample {
-            readings: key,
-            ..good
+        Account {
+            readings: &key,
+            ..SAMPLE
         },
     )?;
     // the ends are right, and apart
-    let apart = [first, made(1, 9, 0, 31, 50), third];
-    is_unlawful(
-        &rt,
-        &Sample {
-            low: 31,
-            readings: apart,
-            ..good
-        },
-    )?;
+    let apart = Account {
+        interval: Interval { low: 31, high: 30 },
+        readings: &[first, made(1, 9, 0, 31, 50), third],
+        ..SAMPLE
+    };
+    is_unlawful(&rt, apart)?;
     // only the second's timestamp is above its promise
-    let backward = [
-        made(0, 0, 0, 0, 40),
-        made(1, 9, 0, 50, 49),
-        made(0, 0, 0, 0, 50),
-    ];
-    is_unlawful(
-        &rt,
-        &Sample {
-            low: 50,
-            high: 40,
-            readings: backward,
-            ..good
-        },
-    )
+    let backward = Account {
+        interval: Interval { low: 50, high: 40 },
+        readings: &[
+            made(0, 0, 0, 0, 40),
+            made(1, 9, 0, 50, 49),
+            made(0, 0, 0, 0, 50),
+        ],
+        ..SAMPLE
+    };
+    is_unlawful(&rt, backward)
 }
 
 #[test]
 fn unlawful_writes_are_not_written(rt: HostRuntime) -> Result<(), Fail> {
-    let good = lawful_sample();
-    let [first, second] = good.writes;
-    is_unlawful(
-        &rt,
-        &Sample {
-            writes: [second, first],
-            ..good
-        },
-    )?;
-    is_unlawful(
-        &rt,
-        &Sample {
-            writes: [first, first],
-            ..good
-        },
-    )?;
-    is_unlawful(
-        &rt,
-        &Sample {
-            writes: [first, Write { key: 64, value: 6 }],
-            ..good
-        },
-    )
+    let [first, second] = SAMPLE_WRITES;
+    let out_of_range = Write { key: 64, value: 6 };
+    for writes in [[second, first], [first, first], [first, out_of_range]] {
+        is_unlawful(
+            &rt,
+            Account {
+                writes: &writes,
+                ..SAMPLE
+            },
+        )?;
+    }
+    Ok(())
 }
 
 #[test]
 fn unlawful_sizes_are_not_written(rt: HostRuntime) -> Result<(), Fail> {
-    let all = Interval {
-        low: 0,
-        high: OPEN_END,
-    };
     let mut buffer = [7u8; 1000];
-    refused(
-        &rt,
-        write_account(
-            Interval { low: 0, high: 0 },
-            0,
-            &[NO_READING; 33],
-            &[],
-            &mut buffer,
-        ),
-        21,
-        0,
-    )?;
-    let writes = [
-        held(0),
-        held(1),
-        held(2),
-        held(3),
-        held(4),
-        held(5),
-        held(6),
-        held(7),
-        held(8),
-    ];
-    refused(&rt, write_account(all, 1, &[], &writes, &mut buffer), 21, 0)?;
-    // a timestamp without writes, and a promise at the open end
-    refused(&rt, write_account(all, 1, &[], &[], &mut buffer), 21, 0)?;
-    refused(
-        &rt,
-        write_account(all, 0, &[made(0, 0, 0, 0, OPEN_END)], &[], &mut buffer),
-        21,
-        0,
-    )?;
+    let many_readings = Account {
+        interval: Interval { low: 0, high: 0 },
+        readings: &[NO_READING; 33],
+        ..EMPTY
+    };
+    refused(&rt, many_readings.write(&mut buffer), 21, 0)?;
+    let many_writes = Account {
+        timestamp: 1,
+        writes: &[0, 1, 2, 3, 4, 5, 6, 7, 8].map(held),
+        ..EMPTY
+    };
+    refused(&rt, many_writes.write(&mut buffer), 21, 0)?;
+    let timestamp_without_writes = Account {
+        timestamp: 1,
+        ..EMPTY
+    };
+    refused(&rt, timestamp_without_writes.write(&mut buffer), 21, 0)?;
+    let promise_at_the_open_end = Account {
+        readings: &[made(0, 0, 0, 0, OPEN_END)],
+        ..EMPTY
+    };
+    refused(&rt, promise_at_the_open_end.write(&mut buffer), 21, 0)?;
     assert!(rt; buffer == [7u8; 1000]);
     Ok(())
 }
@@ -330,7 +287,7 @@ fn unlawful_sizes_are_not_written(rt: HostRuntime) -> Result<(), Fail> {
 #[test]
 fn short_buffer_is_refused(rt: HostRuntime) -> Result<(), Fail> {
     let mut buffer = [7u8; 104];
-    refused(&rt, write(&lawful_sample(), &mut buffer), 10, 0)?;
+    refused(&rt, SAMPLE.write(&mut buffer), 10, 0)?;
     assert!(rt; buffer == [7u8; 104]);
     Ok(())
 }
@@ -365,26 +322,24 @@ fn changed(at: usize, byte: u8) -> [u8; 105] {
 #[test]
 fn account_comes_back_from_any_place(rt: HostRuntime) -> Result<(), Fail> {
     let mut book = [0u8; 300];
-    let good = lawful_sample();
-    let _ = write(&good, &mut book[100..300]);
+    let _ = SAMPLE.write(&mut book[100..300]);
     let mut readings = [NO_READING; 4];
     let mut writes = [NO_WRITE; 3];
     let Ok(read) = read_account(&book, 100, &mut readings, &mut writes) else {
         return Err(Fail::new("not read"));
     };
-    let interval = Interval { low: 20, high: 30 };
     assert_eq!(rt; read.end, 205);
-    assert_eq!(rt; read.head.interval, interval);
     assert_eq!(rt;
-        [
-            read.head.timestamp as usize,
-            read.head.readings,
-            read.head.writes,
-        ],
-        [51, 3, 2]
+        read.head,
+        AccountHead {
+            interval: Interval { low: 20, high: 30 },
+            timestamp: 51,
+            readings: 3,
+            writes: 2,
+        }
     );
-    let [r0, r1, r2] = good.readings;
-    let [w0, w1] = good.writes;
+    let [r0, r1, r2] = SAMPLE_READINGS;
+    let [w0, w1] = SAMPLE_WRITES;
     assert_eq!(rt; readings, [r0, r1, r2, NO_READING]);
     assert_eq!(rt; writes, [w0, w1, NO_WRITE]);
     Ok(())
@@ -458,9 +413,8 @@ fn lists_may_be_just_long_enough(rt: HostRuntime) {
     let mut readings = [NO_READING; 3];
     let mut writes = [NO_WRITE; 2];
     assert!(rt; read_account(&SAMPLE_BYTES, 0, &mut readings, &mut writes).is_ok());
-    let good = lawful_sample();
-    assert!(rt; readings == good.readings);
-    assert!(rt; writes == good.writes);
+    assert!(rt; readings == SAMPLE_READINGS);
+    assert!(rt; writes == SAMPLE_WRITES);
 }
 
 #[test]

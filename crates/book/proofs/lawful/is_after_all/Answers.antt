@@ -1,26 +1,12 @@
--- The first promise that is not before the timestamp decides; past the last none does.
-use Rattle.std.proofs.Common.{ltb}
-use Rattle.std.proofs.lemmas.Bool.{lt-ltb, le-ltb}
-use Rattle.snapshot.specs.Accounts.{zero_reading}
-use Rattle.snapshot.proofs.Alls.{all_fails, all_passes, all_ends}
+-- The test of each reading is the rule's.
+use Rattle.std.proofs.Common.{nat_lt, ◌∙◌, rules, tests}
+use Rattle.std.proofs.lemmas.Iterator.{YieldsList-from_slice}
+use Rattle.std.proofs.lemmas.Iterator.Search.{all_from_yields_List}
+use Rattle.book.proofs.Tests.{all_is_all}
 use Rattle.book.proofs.lawful.is_after_all.Goals as goal
-
-pub returns-then-reading-timestamp : goal.returns-then-reading-timestamp
-returns-then-reading-timestamp c =
-    all_fails (λ x. ltb x.reading.promise c.args.timestamp) c.args.readings.now c.loop-reading.reading-index zero_reading
-    c.loop-reading-test.true
-    (le-ltb _ _ c.if-reading-timestamp.true)
-    c.loop-reading.invariant
-
-pub loop-reading-preserved : goal.loop-reading-preserved
-loop-reading-preserved c =
-    all_passes (λ x. ltb x.reading.promise c.args.timestamp) c.args.readings.now c.loop-reading.reading-index zero_reading
-    c.loop-reading-test.true
-    (lt-ltb _ _ c.if-reading-timestamp.false)
-    c.loop-reading.invariant
 
 pub returns : goal.returns
 returns c =
-    all_ends (λ x. ltb x.reading.promise c.args.timestamp) c.args.readings.now c.loop-reading.reading-index
-    c.loop-reading-test.false
-    c.loop-reading.invariant
+    let rs = c.args.readings.now in
+    all_from_yields_List (λ x. nat_lt x.reading.promise c.args.timestamp) _ _ _ c.all.ensures.ran (YieldsList-from_slice rs cc) (λ x b q k. search (rules, tests))
+    ∙ all_is_all _ rs
