@@ -78,15 +78,15 @@ abbrev pub outdated_in : ℕ → List Record → ℕ → ℕ
 outdated_in h rs k = outdated h (of_key k rs)
 
 -- one record more
-module _ (rs : List Record) (i : ℕ) (lt : i < length rs) (r : Record) (is : r ≡ get_or rs i no_record) where
-  here_key : has_key r.key (get_or rs i no_record) ≡ true
-  here_key = eq-eqb _ _ (sym (ap (λ x. x.key) is))
+module _ (rs : List Record) (i : ℕ) (lt : i < length rs) where
+  abbrev r : Record
+  r = get_or rs i no_record
 
   pub pushed_here : of_key r.key (take (i + 1) rs) ≡ of_key r.key (take i rs) ++ version_in r ∷ []
-  pushed_here = of_key_more_yes r.key rs i no_record lt here_key ∙ ap (λ x. of_key r.key (take i rs) ++ version_in x ∷ []) (sym is)
+  pushed_here = of_key_more_yes r.key rs i no_record lt (eq-eqb r.key r.key refl)
 
   pub same_elsewhere : (k : ℕ) → (r.key ≡ k → ⊥) → of_key k (take (i + 1) rs) ≡ of_key k (take i rs)
-  same_elsewhere k ne = of_key_more_no k rs i no_record lt (ne_eqb _ _ (λ e. ne (ap (λ x. x.key) is ∙ e)))
+  same_elsewhere k ne = of_key_more_no k rs i no_record lt (ne_eqb r.key k ne)
 
   pub count_more : (p q : PerKey) (n : ℕ) → Numbers p (counted (take i rs)) → n ≡ number_for p r.key → ((k : ℕ) → number_for q k ≡ with (number_for p) r.key (n + 1) k) → Numbers q (counted (take (i + 1) rs))
   count_more p q n old count made =
