@@ -1,10 +1,10 @@
--- Records that a test keeps, moved to the front of where they stand, and zeros written after them.
+-- Records that a test keeps, moved to the front of where they stand.
 use Rattle.std.proofs.Common.{◌≡◌, ℕ, ◌+◌, ◌-◌, ◌<◌, ◌≤◌, Bool, true, false, if◌then◌else◌, List, [], ◌∷◌, ◌++◌, length, get_or, take, drop, set, replicate, sym, refl, ap, ◌∙◌, subst, append_assoc, add-zero, arith}
 use Rattle.std.proofs.lemmas.List.{append-nil, drop_all, drop_at, drop-drop, drop_more, drop-set-lt, get_or-drop, length-drop, length-take-le, take_more_set}
 use Rattle.std.proofs.lemmas.Slice.{take-put_mid_below}
 use Rattle.std.specs.List.Retain.{IsFiltered}
 use borrow.Rule.Slice.PartMut.{put_mid}
-use Rattle.table_store.specs.Records.{Compacted, no_record}
+use Rattle.table_store.specs.Records.{no_record}
 use Rattle.table_store.specs.declared.record.Record.{Record}
 
 module _ {P : Type 0} (R : P → Record → Bool → P → Type 0) where
@@ -61,16 +61,19 @@ module _ {P : Type 0} (R : P → Record → Bool → P → Type 0) where
             within = omega (arith, m.within);
           }
 
-    -- all were shown, and what stands after those that stay has become zeros
-    pub all_moved : (ys : List Record) → length rs ≤ place → left ≤ length rs → ys ≡ replicate (length rs - left) no_record → Compacted R p rs (put_mid left (length xs - left) xs ys) left
-    all_moved ys past fits zeroed =
-        let none : IsFiltered R q (drop place rs) [] = subst (λ zs. IsFiltered R q zs []) (sym (drop_all place rs past)) ([], q, refl, refl, refl) in
-        let after : List Record = put_mid left (length xs - left) xs ys in
-        let front : take left xs ++ [] ≡ take left after =
-        append-nil (take left xs) ∙ sym (take-put_mid_below left (length xs - left) xs ys left (omega arith) (omega (arith, long, fits))) in
-        let nothing : drop (length xs - left) (drop left xs) ≡ [] = drop_all (length xs - left) (drop left xs) (omega (arith, length-drop left xs)) in
-        record {
-          kept = subst (IsFiltered R p rs) front (m.whole [] none);
-          zeros = drop_at (take left xs) _ left (length-take-le left xs (omega (arith, long, fits))) ∙ ap (λ zs. ys ++ zs) nothing ∙ append-nil ys ∙ zeroed;
-          within = fits;
-        }
+    -- all were shown, and ys now stands in the place of what comes after those that stay
+    module _ (ys : List Record) (past : length rs ≤ place) (fits : left ≤ length rs) where
+      abbrev after : List Record
+      after = put_mid left (length xs - left) xs ys
+
+      pub all_kept : IsFiltered R p rs (take left after)
+      all_kept =
+          let none : IsFiltered R q (drop place rs) [] = subst (λ zs. IsFiltered R q zs []) (sym (drop_all place rs past)) ([], q, refl, refl, refl) in
+          let front : take left xs ++ [] ≡ take left after =
+          append-nil (take left xs) ∙ sym (take-put_mid_below left (length xs - left) xs ys left (omega arith) (omega (arith, long, fits))) in
+          subst (IsFiltered R p rs) front (m.whole [] none)
+
+      pub all_else : drop left after ≡ ys
+      all_else =
+          let nothing : drop (length xs - left) (drop left xs) ≡ [] = drop_all (length xs - left) (drop left xs) (omega (arith, length-drop left xs)) in
+          drop_at (take left xs) _ left (length-take-le left xs (omega (arith, long, fits))) ∙ ap (λ zs. ys ++ zs) nothing ∙ append-nil ys

@@ -2,9 +2,8 @@
 use Rattle.std.proofs.Common.{◌≡◌, ℕ, zero, suc, ◌+◌, ◌-◌, ◌<◌, ◌≤◌, Bool, true, false, if◌then◌else◌, List, [], ◌∷◌, ◌++◌, length, take, drop, set, replicate, sym, refl, ap, ◌∙◌, subst, arith}
 use Rattle.std.proofs.lemmas.Bool.{and_parts, cond_both, cond-true, cond-false}
 use Rattle.std.proofs.lemmas.List.{drop-append-le, drop-drop, length-append, length-drop, length_push, length-set, length-take, take_all, take-append-le, take_at, take_more_set}
-use Rattle.std.specs.List.Retain.{IsFiltered}
 use Rattle.snapshot.specs.Accounts.{all}
-use Rattle.table_store.specs.Records.{Compacted, Retained, no_record, with_one_more}
+use Rattle.table_store.specs.Records.{no_record, with_one_more}
 use Rattle.table_store.specs.Tables.{is_table_size, is_zero, listing_in, room_in, zeros_after}
 use Rattle.table_store.specs.declared.record.Record.{Record}
 
@@ -57,31 +56,28 @@ module _ (mem : List Record) (kept : ℕ) (r : Record) where
       let long : length (take kept mem) ≡ room_in mem = omega (arith, within, full, room_le mem, length-take kept mem) in
       λ i. record { records = sym (take_at (take kept mem) (r ∷ []) (room_in mem) long) i; room = room_in mem }
 
--- A retain.
+-- A retain: xs is what now stands in the place of the first `kept` records.
 
 module _
-    {P : Type 0} (R : P → Record → Bool → P → Type 0) (p : P) (mem xs : List Record) (kept left : ℕ) (c : Compacted R p (take kept mem) xs left)
-    (long : length xs ≡ length (take kept mem)) (within : kept ≤ room_in mem)
+    (mem xs : List Record) (kept left : ℕ) (long : length xs ≡ length (take kept mem)) (some : left ≤ length (take kept mem)) (within : kept ≤ room_in mem)
   where
-    abbrev after : List Record
-    after = xs ++ drop kept mem
+  abbrev after : List Record
+  after = xs ++ drop kept mem
 
-    as_long : length after ≡ length mem
-    as_long = omega (arith, long, within, room_le mem, length-append xs (drop kept mem), length-drop kept mem, length-take kept mem)
+  as_long : length after ≡ length mem
+  as_long = omega (arith, long, within, room_le mem, length-append xs (drop kept mem), length-drop kept mem, length-take kept mem)
 
-    few : left ≤ length xs
-    few = omega (arith, c.within, long)
+  pub retain_room : room_in after ≡ room_in mem
+  retain_room = same_room mem after as_long
 
-    retain_room : room_in after ≡ room_in mem
-    retain_room = same_room mem after as_long
+  pub retain_within : left ≤ room_in after
+  retain_within = omega (arith, retain_room, some, within, length-take kept mem)
 
-    pub retain_within : left ≤ room_in after
-    retain_within = omega (arith, retain_room, c.within, within, length-take kept mem)
+  pub retain_front : take left after ≡ take left xs
+  retain_front = take-append-le left xs (drop kept mem) (omega (arith, some, long))
 
-    pub retain_zeros : (is_table_size (length mem) ≡ true → zeros_after mem kept ≡ true) → is_table_size (length after) ≡ true → zeros_after after left ≡ true
-    retain_zeros zeros fit =
-        ap (all is_zero) (drop-append-le left xs (drop kept mem) few ∙ ap (λ ys. ys ++ drop kept mem) c.zeros)
-        ∙ all_zeros (length (take kept mem) - left) (drop kept mem) (zeros (ap is_table_size (sym as_long) ∙ fit))
-
-    pub retained : Retained R p (listing_in mem kept) (listing_in after left)
-    retained = (retain_room, subst (IsFiltered R p (take kept mem)) (sym (take-append-le left xs (drop kept mem) few)) c.kept)
+  pub retain_zeros :
+      (n : ℕ) → drop left xs ≡ replicate n no_record → (is_table_size (length mem) ≡ true → zeros_after mem kept ≡ true) → is_table_size (length after) ≡ true → zeros_after after left ≡ true
+  retain_zeros n zeros tidy fit =
+      ap (all is_zero) (drop-append-le left xs (drop kept mem) (omega (arith, some, long)) ∙ ap (λ ys. ys ++ drop kept mem) zeros)
+      ∙ all_zeros n (drop kept mem) (tidy (ap is_table_size (sym as_long) ∙ fit))

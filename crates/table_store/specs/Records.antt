@@ -1,6 +1,5 @@
 -- Lists of records, oldest first: the versions that they hold of each key, and what is left when each key drops some.
-use Rattle.std.specs.Prelude.{◌≡◌, ℕ, zero, suc, ◌-◌, ◌≤◌, Bool, if◌then◌else◌, List, [], ◌∷◌, ◌++◌, map, length, take, drop, replicate, Some, None, Ok, Err, fold, filter, Option, Result, ◌==◌, nat_lt, nat_le}
-use Rattle.std.specs.List.Retain.{IsFiltered}
+use Rattle.std.specs.Prelude.{ℕ, zero, suc, ◌-◌, Bool, if◌then◌else◌, List, [], ◌∷◌, ◌++◌, map, length, take, Some, None, Ok, Err, fold, filter, Option, Result, ◌==◌, nat_lt, nat_le}
 use Rattle.snapshot.specs.declared.fault.Fault.{Fault}
 use Rattle.snapshot.specs.declared.fault.Refusal.TheVariants.{CapacityExceeded}
 use Rattle.snapshot.specs.declared.account.Write.{Write}
@@ -36,16 +35,6 @@ with_one_more l r = with_records (take l.room (l.records ++ (r ∷ []))) l
 -- these records more, as far as there is room
 abbrev pub with_all : List Record → Listing → Listing
 with_all rs l = fold with_one_more l rs
-
--- of these records a test that started as p, and answers by R, has kept those that stay
-abbrev pub Retained : {P : Type 0} → (P → Record → Bool → P → Type 0) → P → Listing → Listing → Type 0
-Retained R p before after = (after.room ≡ before.room) × IsFiltered R p before.records after.records
-
--- such a test has kept the first `left` records of what is now there, and zeros follow them
-pub record Compacted {P : Type 0} (R : P → Record → Bool → P → Type 0) (p : P) (before after : List Record) (left : ℕ) : Type 0 where
-  pub kept : IsFiltered R p before (take left after)
-  pub zeros : drop left after ≡ replicate (length before - left) no_record
-  pub within : left ≤ length before
 
 -- What each key has, and what it drops.
 

@@ -1,7 +1,8 @@
 // A record of one version, and lists of records by what can be done to them.
 ghost use Rattle.std.specs.Prelude.{◌≡◌};
 ghost use Rattle.std.specs.Fn.{CalledAt};
-ghost use Rattle.table_store.specs.Records.{Listing, Retained, with_one_more};
+ghost use Rattle.std.specs.List.Retain.{IsFiltered};
+ghost use Rattle.table_store.specs.Records.{Listing, with_one_more};
 
 // One version of one key.
 #[derive(Clone, Copy, PartialEq, Eq, Debug)]
@@ -32,7 +33,8 @@ pub(crate) trait RecordList {
     // Drops the records that are not to be kept. Each one that stays moves at most once.
     fn retain<F: FnMut(&Record) -> bool>(&mut self, keep: F)
         requires { F.IsAlwaysCallable keep }
-        ensures { Retained (CalledAt F.FnMut) keep (listing self.old) (listing self.new) };
+        ensures kept { IsFiltered (CalledAt F.FnMut) keep (listing self.old).records (listing self.new).records }
+        ensures room { (listing self.new).room ≡ (listing self.old).room };
 
     // Adds a record after the last; where there is no room, nothing changes.
     fn push(&mut self, new: Record)

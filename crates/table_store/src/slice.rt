@@ -1,7 +1,8 @@
 // A list of records in a slice that a caller lends.
-ghost use Rattle.std.specs.Prelude.{◌≡◌, ◌≤◌, true, false, length};
+ghost use Rattle.std.specs.Prelude.{◌≡◌, ◌-◌, ◌≤◌, true, false, length, take, drop, replicate};
 ghost use Rattle.std.specs.Fn.{CalledAt};
-ghost use Rattle.table_store.specs.Records.{Compacted};
+ghost use Rattle.std.specs.List.Retain.{IsFiltered};
+ghost use Rattle.table_store.specs.Records.{no_record};
 ghost use Rattle.table_store.specs.Tables.{is_table_size, listing_in, room_in, zeros_after};
 
 use crate::record::{NO_RECORD, Record, RecordList};
@@ -72,7 +73,9 @@ pub(crate) fn is_fit(memory: &[Record]) -> bool
 // Moves the records that are to be kept to the front, writes zeros after them, and answers how many they are.
 fn compact<F: FnMut(&Record) -> bool>(records: &mut [Record], mut keep: F) -> usize
     requires { F.IsAlwaysCallable keep }
-    ensures { Compacted (CalledAt F.FnMut) keep records.old records.new result }
+    ensures kept { IsFiltered (CalledAt F.FnMut) keep records.old (take result records.new) }
+    ensures zeros { drop result records.new ≡ replicate (length records.old - result) no_record }
+    ensures within { result ≤ length records.old }
 {
     let mut left = 0;
     for place in 0..records.len() {

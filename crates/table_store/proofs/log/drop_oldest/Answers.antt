@@ -7,6 +7,6 @@ use Rattle.table_store.proofs.log.drop_oldest.Goals as goal
 
 pub returns : goal.returns
 returns g c =
-    let h = c.retain.ensures in
-    let kept = kept_by _ (λ p. number_for (closure.captures p).to_drop) (λ p r b q w. search rules) _ _ _ h.1 in
-    λ i. record { records = kept i; room = h.0 i }
+    let ensures = c.retain.ensures in
+    let kept = kept_by _ (λ p. number_for (closure.captures p).to_drop) (λ p r b q w. search rules) _ _ _ ensures.kept in
+    λ i. record { records = kept i; room = ensures.room i }

@@ -2,7 +2,7 @@
 use Rattle.std.proofs.Common.{◌≡◌, ℕ, ◌+◌, ◌-◌, List, length, take, drop, replicate, ap, ◌∙◌, length-take, length-drop, arith, of_calls}
 use Rattle.std.proofs.lemmas.Fn.{called_at}
 use Rattle.std.specs.Fn.{CalledAt}
-use Rattle.table_store.proofs.Compacting.{Moved, all_moved, none_moved, one_goes, one_stays}
+use Rattle.table_store.proofs.Compacting.{Moved, all_else, all_kept, none_moved, one_goes, one_stays}
 use Rattle.table_store.specs.Records.{no_record}
 use Rattle.table_store.specs.declared.record.Record.{Record}
 use Rattle.table_store.proofs.slice.compact.Goals as goal
@@ -25,12 +25,19 @@ loop-place-preserved g c =
       ],
     )
 
-pub returns : goal.returns
-returns g c =
+pub returns-clause-kept : goal.returns-clause-kept
+returns-clause-kept g c =
+    let at = c.loop-place in
+    all_kept (CalledAt g.F.FnMut) c.args.keep c.args.records.now at.keep at.records at.left at.place at.invariant.1 at.auto.records c.fill.new.self c.loop-place-test.false
+    (omega (arith, at.invariant.1.within, at.auto.place-end))
+
+pub returns-clause-zeros : goal.returns-clause-zeros
+returns-clause-zeros g c =
     let at = c.loop-place in
     let rs = c.args.records.now in
     let others : length (take (length at.records - at.left) (drop at.left at.records)) ≡ length rs - at.left =
     omega (arith, length-take (length at.records - at.left) (drop at.left at.records), length-drop at.left at.records, at.auto.records) in
-    all_moved (CalledAt g.F.FnMut) c.args.keep rs at.keep at.records at.left at.place at.invariant.1 at.auto.records c.fill.new.self c.loop-place-test.false
+    all_else (CalledAt g.F.FnMut) c.args.keep rs at.keep at.records at.left at.place at.invariant.1 at.auto.records c.fill.new.self c.loop-place-test.false
     (omega (arith, at.invariant.1.within, at.auto.place-end))
-    (c.fill.ensures.after (λ y e. e) ∙ ap (λ n. replicate n no_record) others)
+    ∙ c.fill.ensures.after (λ y e. e)
+    ∙ ap (λ n. replicate n no_record) others
