@@ -1,5 +1,5 @@
 -- The list in lent memory: its room, the zeros after it, and what one record more and a retain leave of both.
-use Rattle.std.proofs.Common.{◌≡◌, ℕ, zero, suc, ◌+◌, ◌-◌, ◌<◌, ◌≤◌, Bool, true, false, if◌then◌else◌, List, [], ◌∷◌, ◌++◌, length, take, drop, set, replicate, sym, refl, ap, ◌∙◌, subst, arith}
+use Rattle.std.proofs.Common.{◌≡◌, ℕ, zero, suc, ◌+◌, ◌<◌, ◌≤◌, true, false, if◌then◌else◌, List, [], ◌∷◌, ◌++◌, length, take, drop, set, replicate, sym, refl, ap, ◌∙◌, subst, arith}
 use Rattle.std.proofs.lemmas.Bool.{and_parts, cond_both, cond-true, cond-false}
 use Rattle.std.proofs.lemmas.List.{drop-append-le, drop-drop, length-append, length-drop, length_push, length-set, length-take, take_all, take-append-le, take_at, take_more_set}
 use Rattle.snapshot.specs.Accounts.{all}
@@ -61,23 +61,23 @@ module _ (mem : List Record) (kept : ℕ) (r : Record) where
 module _
     (mem xs : List Record) (kept left : ℕ) (long : length xs ≡ length (take kept mem)) (some : left ≤ length (take kept mem)) (within : kept ≤ room_in mem)
   where
-  abbrev after : List Record
-  after = xs ++ drop kept mem
+    abbrev after : List Record
+    after = xs ++ drop kept mem
 
-  as_long : length after ≡ length mem
-  as_long = omega (arith, long, within, room_le mem, length-append xs (drop kept mem), length-drop kept mem, length-take kept mem)
+    as_long : length after ≡ length mem
+    as_long = omega (arith, long, within, room_le mem, length-append xs (drop kept mem), length-drop kept mem, length-take kept mem)
 
-  pub retain_room : room_in after ≡ room_in mem
-  retain_room = same_room mem after as_long
+    pub retain_room : room_in after ≡ room_in mem
+    retain_room = same_room mem after as_long
 
-  pub retain_within : left ≤ room_in after
-  retain_within = omega (arith, retain_room, some, within, length-take kept mem)
+    pub retain_within : left ≤ room_in after
+    retain_within = omega (arith, retain_room, some, within, length-take kept mem)
 
-  pub retain_front : take left after ≡ take left xs
-  retain_front = take-append-le left xs (drop kept mem) (omega (arith, some, long))
+    pub retain_front : take left after ≡ take left xs
+    retain_front = take-append-le left xs (drop kept mem) (omega (arith, some, long))
 
-  pub retain_zeros :
-      (n : ℕ) → drop left xs ≡ replicate n no_record → (is_table_size (length mem) ≡ true → zeros_after mem kept ≡ true) → is_table_size (length after) ≡ true → zeros_after after left ≡ true
-  retain_zeros n zeros tidy fit =
-      ap (all is_zero) (drop-append-le left xs (drop kept mem) (omega (arith, some, long)) ∙ ap (λ ys. ys ++ drop kept mem) zeros)
-      ∙ all_zeros n (drop kept mem) (tidy (ap is_table_size (sym as_long) ∙ fit))
+    pub retain_zeros :
+        (n : ℕ) → drop left xs ≡ replicate n no_record → (is_table_size (length mem) ≡ true → zeros_after mem kept ≡ true) → is_table_size (length after) ≡ true → zeros_after after left ≡ true
+    retain_zeros n zeros tidy fit =
+        ap (all is_zero) (drop-append-le left xs (drop kept mem) (omega (arith, some, long)) ∙ ap (λ ys. ys ++ drop kept mem) zeros)
+        ∙ all_zeros n (drop kept mem) (tidy (ap is_table_size (sym as_long) ∙ fit))

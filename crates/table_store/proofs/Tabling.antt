@@ -15,12 +15,11 @@ use Rattle.store.specs.declared.version.Version.{Version}
 use Rattle.table_store.proofs.Adding.{after_length, room_for_all}
 use Rattle.table_store.proofs.Layouts.{all_from, all_left, order_left, commit_sound, commit_order, of_key_commit, of_key_prune, versions_together, first_sound, first_order, first_length, first_kept}
 use Rattle.table_store.proofs.Memory.{fit_room, unfit_room}
-use Rattle.table_store.proofs.Sameness.{same_table}
 use Rattle.table_store.proofs.Uniqueness.{one_layout}
 use Rattle.table_store.specs.PerKeys.{per_key}
 use Rattle.table_store.specs.Records.{Listing, after_writes, drop_firsts, excess, first_records, if_fits, no_record, of_key, with_all, with_records, without_outdated}
-use Rattle.table_store.specs.Stores.{Pruned, Written, meaning_of}
-use Rattle.table_store.specs.Tables.{HeldIn, LaidOut, MadeNew, Takes, capacity_of, in_order, is_table_size, is_zero, listing_in, room_in, shown_in, sound_record, sound_table, table_meaning}
+use Rattle.table_store.specs.Stores.{meaning_of}
+use Rattle.table_store.specs.Tables.{HeldIn, LaidOut, Takes, capacity_of, in_order, is_table_size, is_zero, listing_in, room_in, shown_in, sound_record, sound_table, table_meaning}
 use Rattle.table_store.specs.declared.record.Record.{Record}
 use Rattle.table_store.specs.declared.slice.RecordSlice.{RecordSlice}
 use Rattle.table_store.specs.declared.table.Table.{Table}
@@ -36,7 +35,7 @@ same_length mem mem' same fit = grind (arith, nat_tests)
 shown_fit : (mem : List Record) (n : ℕ) → is_table_size (length mem) ≡ true → shown_in mem n ≡ take n mem
 shown_fit mem n fit = cond-true (is_table_size (length mem)) (take n mem) (first_records keys) fit
 
-shown_unfit : (mem : List Record) (n : ℕ) → is_table_size (length mem) ≡ false → shown_in mem n ≡ first_records keys
+pub shown_unfit : (mem : List Record) (n : ℕ) → is_table_size (length mem) ≡ false → shown_in mem n ≡ first_records keys
 shown_unfit mem n unfit = cond-false (is_table_size (length mem)) (take n mem) (first_records keys) unfit
 
 -- Soundness.
@@ -208,7 +207,7 @@ module _ (b : Table) (t : ℕ) (ws : List Write) (takes : Takes b.last t ws) whe
   room_agrees : fits ≡ leb (versions_kept (with_writes 16 t ws m)) m.capacity
   room_agrees = ⊎_elim fit_agrees unfit_agrees (cases_Bool (is_table_size (length mem)))
 
-  commit_room : if_fits (length (after_writes 16 t ws listed)) (room_in mem) ≡ if_fits (versions_kept (with_writes 16 t ws m)) m.capacity
+  pub commit_room : if_fits (length (after_writes 16 t ws listed)) (room_in mem) ≡ if_fits (versions_kept (with_writes 16 t ws m)) m.capacity
   commit_room = ap answer room_agrees
 
   -- where there is room, the memory is fit
@@ -229,28 +228,8 @@ module _ (b : Table) (t : ℕ) (ws : List Write) (takes : Takes b.last t ws) whe
       ap (λ xs. with_records (after_writes 16 t ws xs) (listing b.list)) (sym (shown_fit mem b.list.kept fit)) in
       changed_to b l t (after_writes 16 t ws rs) (with_writes 16 t ws m).kept fit (is ∙ shown) sound_after order_after kept_after
 
-  -- the table after writes that it took
-  pub written : Ok tt ≡ if_fits (length (after_writes 16 t ws listed)) (room_in mem) → (a : Table) → a.last ≡ t → listing a.list ≡ with_records (after_writes 16 t ws listed) (listing b.list) → Written b a t ws (Ok tt)
-  written ok a now is =
-      record {
-        room = ok ∙ commit_room;
-        meaning = ap (table_meaning a.list.memory.now a.list.kept) now ∙ (table_write ok a.list is).meaning;
-        unchanged = tt;
-        laid = held a.list a.last a.sound;
-        alone = λ unfit. absurd (both_ways _ unfit (fit_where_room ok));
-      }
-
-  -- and after writes for which it had no room
-  pub refused : (result : Result (Unit {0}) Fault) (e : Fault) → result ≡ Err e → Err e ≡ if_fits (length (after_writes 16 t ws listed)) (room_in mem) → (a : Table) → a.list ≡ b.list → a.last ≡ b.last → Written b a t ws result
-  refused result e is full a list last =
-      subst (Written b a t ws) (sym is)
-      (record {
-        room = full ∙ commit_room;
-        meaning = ap meaning_of (same_table a b list last);
-        unchanged = same_table a b list last;
-        laid = held a.list a.last a.sound;
-        alone = λ _. ap (λ l. l.memory.now) list;
-      })
+  pub write_alone : Ok tt ≡ if_fits (length (after_writes 16 t ws listed)) (room_in mem) → is_table_size (length mem) ≡ false → ⊥
+  write_alone ok unfit = both_ways _ unfit (fit_where_room ok)
 
 -- A prune.
 
@@ -266,53 +245,40 @@ table_prune b h l fit is =
     (order_left e rs sound.order)
     (of_key_prune h rs (keyed b.last rs sound.records))
 
-pub pruned : (b : Table) (h : ℕ) → is_table_size (length b.list.memory.now) ≡ true → (a : Table) → a.last ≡ b.last → listing a.list ≡ with_records (without_outdated h (take b.list.kept b.list.memory.now)) (listing b.list) → Pruned b a h
-pruned b h fit a last is =
-    record {
-      meaning = ap (table_meaning a.list.memory.now a.list.kept) last ∙ (table_prune b h a.list fit is).meaning;
-      laid = held a.list a.last a.sound;
-      alone = λ unfit. absurd (both_ways _ unfit fit);
-    }
-
 -- in unfit memory a prune finds nothing to drop
-none_outdated : (b : Table) (h : ℕ) → is_table_size (length b.list.memory.now) ≡ false → meaning_of b ≡ pruned_at h (meaning_of b)
-none_outdated b h unfit i =
+pub table_prune_unfit : (b : Table) (h : ℕ) → is_table_size (length b.list.memory.now) ≡ false → meaning_of b ≡ pruned_at h (meaning_of b)
+table_prune_unfit b h unfit i =
     let P : List Version → Type 0 = λ xs. xs ≡ drop (outdated h xs) xs in
     let each : (k : ℕ) → P ((meaning_of b).kept k) = λ k.
     let vs = ap (of_key k) (shown_unfit b.list.memory.now b.list.kept unfit) ∙ first_kept k in
     subst P (sym vs) (cond_both (is_key k) (version_of 0 0 ∷ []) [] P (λ _. refl) (λ _. refl)) in
     record { last = b.last; capacity = (meaning_of b).capacity; kept = λ k. each k i }
 
-pub unpruned : (b : Table) (h : ℕ) → is_table_size (length b.list.memory.now) ≡ false → Pruned b b h
-unpruned b h unfit = record { meaning = none_outdated b h unfit; laid = held b.list b.last b.sound; alone = λ _. refl }
-
 -- A new store.
 
-made_new : (before : List Record) (l : RecordSlice) → length l.memory.now ≡ length before → shown_in l.memory.now l.kept ≡ first_records keys → (is_table_size (length before) ≡ false → l.memory.now ≡ before) → MadeNew before l.memory.now l.kept
-made_new before l size shown alone =
-    let mem = l.memory.now in
-    let sound = sound_at mem l.kept 0 (first_records keys) shown (first_sound 0) (first_order keys) in
-    record {
-      sound = sound;
-      meaning = meaning_at mem l.kept 0 (capacity_of (length before)) (first_records keys) (new_store 0).kept (ap capacity_of size) shown first_kept;
-      held = held l 0 sound;
-      alone = alone;
-    }
+-- fit memory whose list was empty, and has the records of a new store added
+module _ (empty l : RecordSlice) (none : empty.kept ≡ 0) (fit : is_table_size (length empty.memory.now) ≡ true) (is : listing l ≡ with_all (first_records keys) (listing empty)) where
+  now : listing l ≡ record { records = first_records keys; room = room_in empty.memory.now }
+  now =
+      let long = first_length keys in
+      let enough : keys ≤ room_in empty.memory.now = grind (arith, nat_tests) in
+      is
+      ∙ ap (λ n. with_all (first_records keys) (listing_in empty.memory.now n)) none
+      ∙ room_for_all (first_records keys) (record { records = []; room = room_in empty.memory.now }) (omega (arith, long, enough))
 
-pub new_in_unfit : (before : List Record) (l : RecordSlice) → length l.memory.now ≡ length before → is_table_size (length l.memory.now) ≡ false → (is_table_size (length before) ≡ false → l.memory.now ≡ before) → MadeNew before l.memory.now l.kept
-new_in_unfit before l size unfit alone = made_new before l size (shown_unfit l.memory.now l.kept unfit) alone
+  pub new_size : length l.memory.now ≡ length empty.memory.now
+  new_size = same_length empty.memory.now l.memory.now (ap (λ m. m.room) now) fit
 
-pub new_in_fit :
-    (before : List Record) (empty l : RecordSlice) → length empty.memory.now ≡ length before → empty.kept ≡ 0 → is_table_size (length empty.memory.now) ≡ true →
-    listing l ≡ with_all (first_records keys) (listing empty) → MadeNew before l.memory.now l.kept
-new_in_fit before empty l size none fit is =
-    let start : listing empty ≡ record { records = []; room = room_in empty.memory.now } = ap (λ n. listing_in empty.memory.now n) none in
-    let long = first_length keys in
-    let enough : keys ≤ room_in empty.memory.now = grind (arith, nat_tests) in
-    let now = is ∙ ap (with_all (first_records keys)) start ∙ room_for_all (first_records keys) (record { records = []; room = room_in empty.memory.now }) (omega (arith, long, enough)) in
-    let same = same_length empty.memory.now l.memory.now (ap (λ m. m.room) now) fit in
-    made_new before l (same ∙ size) (shown_fit l.memory.now l.kept (ap is_table_size same ∙ fit) ∙ ap (λ m. m.records) now)
-    (λ unfit. absurd (both_ways _ unfit (ap is_table_size (sym size) ∙ fit)))
+  pub new_shown : shown_in l.memory.now l.kept ≡ first_records keys
+  new_shown = shown_fit l.memory.now l.kept (ap is_table_size new_size ∙ fit) ∙ ap (λ m. m.records) now
+
+-- a table that shows the records of a new store
+module _ (mem : List Record) (n : ℕ) (shown : shown_in mem n ≡ first_records keys) where
+  pub new_sound : sound_table mem n 0 ≡ true
+  new_sound = sound_at mem n 0 (first_records keys) shown (first_sound 0) (first_order keys)
+
+  pub new_meaning : (size : ℕ) → length mem ≡ size → table_meaning mem n 0 ≡ new_store (capacity_of size)
+  new_meaning size long = meaning_at mem n 0 (capacity_of size) (first_records keys) (new_store 0).kept (ap capacity_of long) shown first_kept
 
 -- A question.
 

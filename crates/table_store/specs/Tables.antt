@@ -1,12 +1,12 @@
 -- The memory of a table store: what it lists, what it means, and how it is laid out.
-use Rattle.std.specs.Prelude.{◌≡◌, ℕ, ◌-◌, ◌<◌, ◌≤◌, Bool, true, false, if◌then◌else◌, ◌&&◌, ◌||◌, List, [], ◌∷◌, ◌++◌, length, take, drop, replicate, Ok, Err, Result, ◌==◌, nat_le, nat_lt}
+use Rattle.std.specs.Prelude.{◌≡◌, ℕ, ◌-◌, ◌<◌, ◌≤◌, Bool, true, if◌then◌else◌, ◌&&◌, ◌||◌, List, [], ◌∷◌, ◌++◌, length, take, drop, replicate, Ok, Err, Result, ◌==◌, nat_le, nat_lt}
 use Rattle.std.specs.List.{AllByRecursion}
 use Rattle.snapshot.specs.Accounts.{all, rising_from}
 use Rattle.snapshot.specs.Limits.{keys, least_records, most_records, is_key}
 use Rattle.snapshot.specs.declared.account.Write.{Write}
 use Rattle.snapshot.specs.declared.fault.Fault.{Fault}
 use Rattle.snapshot.specs.declared.fault.Refusal.TheVariants.{UnfitMemory}
-use Rattle.store.specs.Meaning.{Meaning, new_store, store_fault}
+use Rattle.store.specs.Meaning.{Meaning, store_fault}
 use Rattle.table_store.specs.Records.{Listing, first_records, no_record, of_key}
 use Rattle.table_store.specs.declared.record.Record.{Record}
 
@@ -85,13 +85,6 @@ OnlyLayout m mem = (other : List Record) → length other ≡ length mem → Lai
 abbrev pub HeldIn : List Record → ℕ → ℕ → Type 0
 HeldIn mem n last =
     is_table_size (length mem) ≡ true → LaidOut (table_meaning mem n last) mem × OnlyLayout (table_meaning mem n last) mem
-
--- memory that has become that of a new store: it is sound, means a new store and holds it, or is unfit and left alone
-pub record MadeNew (before after : List Record) (n : ℕ) : Type 0 where
-  pub sound : sound_table after n 0 ≡ true
-  pub meaning : table_meaning after n 0 ≡ new_store (capacity_of (length before))
-  pub held : HeldIn after n 0
-  pub alone : is_table_size (length before) ≡ false → after ≡ before
 
 -- writes that a table can take at a timestamp: some, with rising keys, and later than last
 pub record Takes (last t : ℕ) (ws : List Write) : Type 0 where

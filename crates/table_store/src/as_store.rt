@@ -1,10 +1,11 @@
 // The table store: up to 16 versions of a key, in memory of 64 to 1,024 records that a caller lends.
 ghost use Rattle.std.specs.Prelude.{◌≡◌, true, false, length, OnErr, OnOk};
 ghost use Rattle.std.proofs.Common.{lit≤};
-ghost use Rattle.store.specs.Meaning.{new_store, newest_at, commit_answer, after_commit, after_prune};
-ghost use Rattle.snapshot.specs.Limits.{is_key};
-ghost use Rattle.table_store.specs.Stores.{HoldsVersions, LeavesUnfit, Pruned, Written, meaning_of};
-ghost use Rattle.table_store.specs.Tables.{MadeNew, Takes, capacity_of, is_table_size, memory_check, table_depth};
+ghost use Rattle.store.specs.Meaning.{new_store, newest_at, commit_answer, after_commit, after_prune, pruned_at, versions_kept, with_writes};
+ghost use Rattle.snapshot.specs.Limits.{is_key, keys};
+ghost use Rattle.table_store.specs.Records.{first_records, if_fits};
+ghost use Rattle.table_store.specs.Stores.{HoldsVersions, LeavesUnfit, meaning_of};
+ghost use Rattle.table_store.specs.Tables.{Takes, capacity_of, is_table_size, memory_check, shown_in, table_depth};
 
 use crate::log::{drop_outdated, newest_at, start, write_all};
 use crate::record::{Record, RecordList};
@@ -62,7 +63,11 @@ impl<'a> Table<'a> {
     // Commits the writes at this timestamp; refused, with nothing changed, where there is no room for them.
     fn write(&mut self, timestamp: u64, writes: &[Write]) -> Result<(), Fault>
         requires { Takes self.old.last timestamp writes.now }
-        ensures { Written self.old self.new timestamp writes.now result }
+        ensures answer { result ≡ if_fits (versions_kept (with_writes table_depth timestamp writes.now (meaning_of self.old))) (meaning_of self.old).capacity }
+        ensures after { OnOk result (meaning_of self.new ≡ with_writes table_depth timestamp writes.now (meaning_of self.old)) }
+        ensures unchanged { OnErr result (self.new ≡ self.old) }
+        ensures laid { OnOk result (HoldsVersions self.new) }
+        ensures alone { LeavesUnfit self.old self.new }
     {
         write_all(&mut self.list, timestamp, writes, Self::DEPTH)?;
         self.last = timestamp;
@@ -71,7 +76,9 @@ impl<'a> Table<'a> {
 
     // Drops of each key what is outdated at this time.
     fn forget(&mut self, time: u64)
-        ensures { Pruned self.old self.new time }
+        ensures after { meaning_of self.new ≡ pruned_at time (meaning_of self.old) }
+        ensures laid { HoldsVersions self.new }
+        ensures alone { LeavesUnfit self.old self.new }
     {
         if self.list.is_fit() {
             drop_outdated(&mut self.list, time);
@@ -81,7 +88,9 @@ impl<'a> Table<'a> {
 
 // The list of a new store in this memory; unfit memory is left alone.
 fn first_list(memory: &mut [Record]) -> RecordSlice<'_>
-    ensures { MadeNew memory.old result.memory.now result.kept }
+    ensures shown { shown_in result.memory.now result.kept ≡ first_records keys }
+    ensures size { length result.memory.now ≡ length memory.old }
+    ensures alone { is_table_size (length memory.old) ≡ false → result.memory.now ≡ memory.old }
 {
     let mut list = RecordSlice::new(memory);
     if list.is_fit() {

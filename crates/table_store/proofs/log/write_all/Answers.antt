@@ -17,7 +17,7 @@ returns-clause-after g c =
     let e = number_for c.excess_versions-excess.result in
     let left = drop_firsts e l.records in
     let fits : length left + length more ≤ l.room =
-    omega (arith, c.count_left-left.ensures, ap (λ rs. length (drop_firsts e rs)) c.records-2.ensures, c.room.ensures, leb-true _ _ (sym c.if-not-has_room.ensures), length-map ws (written c.args.timestamp)) in
+    omega (arith, c.count_left-left.ensures, ap (λ rs. length (drop_firsts e rs)) c.records-2.ensures, c.room.ensures, leb-true _ _ (sym c.has_room.ensures ∙ c.if-not-has_room.false), length-map ws (written c.args.timestamp)) in
     c.append.ensures
     ∙ ap (with_all more) c.drop_oldest.ensures
     ∙ room_for_all more (with_records left l) fits

@@ -1,12 +1,20 @@
 -- Writes that were taken leave the list that the rules draw, in memory that is fit; without room the table is as it was.
-use Rattle.std.proofs.Common.{refl, rules}
-use Rattle.table_store.proofs.Tabling.{refused, table_write, written}
+use Rattle.std.proofs.Common.{◌≡◌, Err, ap, ◌∙◌, refl, rules}
+use Rattle.table_store.proofs.Sameness.{same_on_err}
+use Rattle.table_store.proofs.Tabling.{commit_room, held, table_write, write_alone}
 use Rattle.table_store.proofs.table.Table.write.Goals as goal
 
-pub returns-in_err-write_all : goal.returns-in_err-write_all
-returns-in_err-write_all c =
-    let no = c.in_err-write_all.ensures in
-    refused c.args.self.now c.args.timestamp c.args.writes.now c.requires c.from_residual.result c.in_err-write_all.field-0.0 (search rules) no.answer _ no.unchanged refl
+pub returns-in_err-write_all-clause-answer : goal.returns-in_err-write_all-clause-answer
+returns-in_err-write_all-clause-answer c =
+    let is : c.from_residual.result ≡ Err c.in_err-write_all.field-0.0 = search rules in
+    is ∙ c.in_err-write_all.ensures.answer ∙ commit_room c.args.self.now c.args.timestamp c.args.writes.now c.requires
+
+pub returns-in_err-write_all-clause-unchanged : goal.returns-in_err-write_all-clause-unchanged
+returns-in_err-write_all-clause-unchanged c =
+    same_on_err c.from_residual.result _ c.args.self.now c.in_err-write_all.ensures.unchanged refl
+
+pub returns-in_err-write_all-clause-alone : goal.returns-in_err-write_all-clause-alone
+returns-in_err-write_all-clause-alone c = λ _. ap (λ l. l.memory.now) c.in_err-write_all.ensures.unchanged
 
 pub invariant_of-self-2 : goal.invariant_of-self-2
 invariant_of-self-2 c =
@@ -15,5 +23,15 @@ invariant_of-self-2 c =
 
 pub returns : goal.returns
 returns c =
+    let b = c.args.self.now in
+    let t = c.args.timestamp in
+    let ws = c.args.writes.now in
     let ok = c.in_ok-write_all.ensures in
-    written c.args.self.now c.args.timestamp c.args.writes.now c.requires ok.answer _ refl ok.after
+    let changed = table_write b t ws c.requires ok.answer c.write_all.new.log ok.after in
+    record {
+      answer = ok.answer ∙ commit_room b t ws c.requires;
+      after = changed.meaning;
+      unchanged = tt;
+      laid = held c.write_all.new.log t changed.sound;
+      alone = λ unfit. absurd (write_alone b t ws c.requires ok.answer unfit);
+    }
