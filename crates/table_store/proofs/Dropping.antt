@@ -1,5 +1,5 @@
 -- Dropping the first records of each key, walked from the front: what is left to look at, and what stays in place.
-use Rattle.std.proofs.Common.{◌≡◌, ℕ, ◌+◌, ◌-◌, ◌<◌, ◌≤◌, Bool, true, false, not, eqb, ltb, List, [], ◌∷◌, length, get_or, drop, sym, refl, ap, ◌∙◌, add-one, arith}
+use Rattle.std.proofs.Common.{◌≡◌, ℕ, ◌+◌, ◌-◌, ◌<◌, ◌≤◌, Bool, true, false, not, ◌==◌, nat_lt, List, [], ◌∷◌, length, get_or, drop, sym, refl, ap, ◌∙◌, add-one, arith}
 use Rattle.std.proofs.lemmas.List.{at_drop_more, at_drop_all}
 use Rattle.std.proofs.lemmas.Bool.{not-true, not-false, cond-true, cond-false, cond_both, eqb-true, ltb-false}
 use Rattle.std.specs.List.{items_where_true}
@@ -13,26 +13,26 @@ pub same_function : {f g : ℕ → ℕ} → ((k : ℕ) → f k ≡ g k) → f �
 same_function p i k = p k i
 
 -- where there is none to take, nothing changes
-one_less_none : (e : ℕ → ℕ) (key : ℕ) → ltb 0 (e key) ≡ false → (k : ℕ) → one_less e key k ≡ e k
+one_less_none : (e : ℕ → ℕ) (key : ℕ) → nat_lt 0 (e key) ≡ false → (k : ℕ) → one_less e key k ≡ e k
 one_less_none e key zero_left k =
-    cond_both (eqb k key) (e k - 1) (e k) (λ n. n ≡ e k) (λ is. omega (arith, ltb-false 0 (e key) zero_left, ap e (eqb-true k key is))) (λ _. refl)
+    cond_both (k == key) (e k - 1) (e k) (λ n. n ≡ e k) (λ is. omega (arith, ltb-false 0 (e key) zero_left, ap e (eqb-true k key is))) (λ _. refl)
 
 module _ (e e' : ℕ → ℕ) (r : Record) (rs : List Record) (after : (k : ℕ) → e' k ≡ one_less e r.key k) where
-  pub first_goes : ltb 0 (e r.key) ≡ true → drop_firsts e (r ∷ rs) ≡ drop_firsts e' rs
-  first_goes some = cond-true (ltb 0 (e r.key)) _ _ some ∙ ap (λ f. drop_firsts f rs) (sym (same_function after))
+  pub first_goes : nat_lt 0 (e r.key) ≡ true → drop_firsts e (r ∷ rs) ≡ drop_firsts e' rs
+  first_goes some = cond-true (nat_lt 0 (e r.key)) _ _ some ∙ ap (λ f. drop_firsts f rs) (sym (same_function after))
 
-  pub first_stays : ltb 0 (e r.key) ≡ false → drop_firsts e (r ∷ rs) ≡ r ∷ drop_firsts e' rs
+  pub first_stays : nat_lt 0 (e r.key) ≡ false → drop_firsts e (r ∷ rs) ≡ r ∷ drop_firsts e' rs
   first_stays none =
-      cond-false (ltb 0 (e r.key)) _ _ none
+      cond-false (nat_lt 0 (e r.key)) _ _ none
       ∙ ap (λ f. r ∷ drop_firsts f rs) (sym (same_function (λ k. after k ∙ one_less_none e r.key none k)))
 
 -- A test that starts as p and answers by R, and whose state has a number for each key: it answers `false` where the
 -- record's key has any left, and takes one from them.
 module _
     {P : Type 0} (R : P → Record → Bool → P → Type 0) (numbers : P → ℕ → ℕ)
-    (takes : (p : P) (r : Record) (b : Bool) (q : P) → R p r b q → (b ≡ not (ltb 0 (numbers p r.key))) × ((k : ℕ) → numbers q k ≡ one_less (numbers p) r.key k))
+    (takes : (p : P) (r : Record) (b : Bool) (q : P) → R p r b q → (b ≡ not (nat_lt 0 (numbers p r.key))) × ((k : ℕ) → numbers q k ≡ one_less (numbers p) r.key k))
   where
-    first : (e e' : ℕ → ℕ) (r : Record) (rs : List Record) (b : Bool) (bs : List Bool) → b ≡ not (ltb 0 (e r.key)) → ((k : ℕ) → e' k ≡ one_less e r.key k) → items_where_true bs rs ≡ drop_firsts e' rs → items_where_true (b ∷ bs) (r ∷ rs) ≡ drop_firsts e (r ∷ rs)
+    first : (e e' : ℕ → ℕ) (r : Record) (rs : List Record) (b : Bool) (bs : List Bool) → b ≡ not (nat_lt 0 (e r.key)) → ((k : ℕ) → e' k ≡ one_less e r.key k) → items_where_true bs rs ≡ drop_firsts e' rs → items_where_true (b ∷ bs) (r ∷ rs) ≡ drop_firsts e (r ∷ rs)
     first e e' r rs true bs says after rest = ap (λ xs. r ∷ xs) rest ∙ sym (first_stays e e' r rs after (not-true _ (sym says)))
     first e e' r rs false bs says after rest = rest ∙ sym (first_goes e e' r rs after (not-false _ (sym says)))
 
@@ -55,10 +55,10 @@ module _ (rs : List Record) (e e' : ℕ → ℕ) (place : ℕ) (lt : place < len
   ahead : length (drop_firsts e (drop place rs)) ≡ length (drop_firsts e (r ∷ drop (place + 1) rs))
   ahead = at_drop_more (λ xs. length (drop_firsts e xs)) rs place no_record lt
 
-  pub counted_goes : ltb 0 (e r.key) ≡ true → length (drop_firsts e (drop place rs)) ≡ length (drop_firsts e' (drop (place + 1) rs))
+  pub counted_goes : nat_lt 0 (e r.key) ≡ true → length (drop_firsts e (drop place rs)) ≡ length (drop_firsts e' (drop (place + 1) rs))
   counted_goes some = ahead ∙ ap length (first_goes e e' r (drop (place + 1) rs) after some)
 
-  pub counted_stays : ltb 0 (e r.key) ≡ false → length (drop_firsts e (drop place rs)) ≡ length (drop_firsts e' (drop (place + 1) rs)) + 1
+  pub counted_stays : nat_lt 0 (e r.key) ≡ false → length (drop_firsts e (drop place rs)) ≡ length (drop_firsts e' (drop (place + 1) rs)) + 1
   counted_stays none = ahead ∙ ap length (first_stays e e' r (drop (place + 1) rs) after none) ∙ sym (add-one _)
 
 pub counted_all : (rs : List Record) (e : ℕ → ℕ) (place : ℕ) → length rs ≤ place → length (drop_firsts e (drop place rs)) ≡ 0

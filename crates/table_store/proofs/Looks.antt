@@ -1,5 +1,5 @@
 -- Looking for the newest version up to a time, from the newest end: what the last record decides.
-use Rattle.std.proofs.Common.{◌≡◌, ℕ, ◌-◌, ◌<◌, ◌≤◌, leb, List, [], ◌∷◌, ◌++◌, Some, ap, ◌∙◌}
+use Rattle.std.proofs.Common.{◌≡◌, ℕ, ◌-◌, ◌<◌, ◌≤◌, nat_le, List, [], ◌∷◌, ◌++◌, Some, ap, ◌∙◌}
 use Rattle.std.proofs.lemmas.Bool.{cond-true, cond-false, eq-eqb, le-leb, lt-leb, ne_eqb}
 use Rattle.store.specs.Meaning.{reading_of, newest_at}
 use Rattle.table_store.proofs.Keys.{of_key_push_yes, of_key_push_no}
@@ -13,14 +13,14 @@ module _ (k s end : ℕ) (rs : List Record) (r : Record) (all : List Record) (is
       ap (λ xs. newest_at s end (of_key k xs)) is
       ∙ ap (newest_at s end) (of_key_push_yes k rs r (eq-eqb r.key k e))
       ∙ newest_push s end (of_key k rs) (version_in r)
-      ∙ cond-true (leb r.timestamp s) _ _ (le-leb r.timestamp s le)
+      ∙ cond-true (nat_le r.timestamp s) _ _ (le-leb r.timestamp s le)
 
   pub looked_later : r.key ≡ k → s < r.timestamp → newest_at s end (of_key k all) ≡ newest_at s (r.timestamp - 1) (of_key k rs)
   looked_later e lt =
       ap (λ xs. newest_at s end (of_key k xs)) is
       ∙ ap (newest_at s end) (of_key_push_yes k rs r (eq-eqb r.key k e))
       ∙ newest_push s end (of_key k rs) (version_in r)
-      ∙ cond-false (leb r.timestamp s) _ _ (lt-leb r.timestamp s lt)
+      ∙ cond-false (nat_le r.timestamp s) _ _ (lt-leb r.timestamp s lt)
 
   pub looked_other : (r.key ≡ k → ⊥) → newest_at s end (of_key k all) ≡ newest_at s end (of_key k rs)
   looked_other ne = ap (λ xs. newest_at s end (of_key k xs)) is ∙ ap (newest_at s end) (of_key_push_no k rs r (ne_eqb r.key k ne))

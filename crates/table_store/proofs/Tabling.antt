@@ -1,5 +1,5 @@
 -- A table's memory, its meaning and its layout: what its soundness says, and what a new store, a commit and a prune leave.
-use Rattle.std.proofs.Common.{◌≡◌, ℕ, ◌-◌, ◌<◌, ◌≤◌, Bool, true, false, if◌then◌else◌, ◌&&◌, eqb, ltb, leb, List, [], ◌∷◌, ◌++◌, length, take, drop, replicate, Some, None, Ok, Err, Option, Result, sym, refl, ap, ◌∙◌, subst, ⊎_elim, arith}
+use Rattle.std.proofs.Common.{◌≡◌, ℕ, ◌-◌, ◌<◌, ◌≤◌, Bool, true, false, if◌then◌else◌, ◌&&◌, ◌==◌, nat_lt, nat_le, List, [], ◌∷◌, ◌++◌, length, take, drop, replicate, Some, None, Ok, Err, Option, Result, sym, refl, ap, ◌∙◌, subst, ⊎_elim, arith}
 use Rattle.std.specs.Option.{option_or}
 use Rattle.std.specs.List.{AllByRecursion}
 use Rattle.std.proofs.lemmas.List.{length-drop, length-take, take-append-drop}
@@ -64,8 +64,8 @@ meaning_at mem n last c rs kept size is each i = record { last = last; capacity 
 
 zero_is : (r : Record) → is_zero r ≡ true → r ≡ no_record
 zero_is r z =
-    let both = and_parts (eqb r.key 0 && eqb r.timestamp 0) (eqb r.value 0) z in
-    let front = and_parts (eqb r.key 0) (eqb r.timestamp 0) both.0 in
+    let both = and_parts (r.key == 0 && r.timestamp == 0) (r.value == 0) z in
+    let front = and_parts (r.key == 0) (r.timestamp == 0) both.0 in
     λ i. record { key = eqb-true r.key 0 front.0 i; timestamp = eqb-true r.timestamp 0 front.1 i; value = eqb-true r.value 0 both.1 i }
 
 zeros_are : (rs : List Record) → all is_zero rs ≡ true → rs ≡ replicate (length rs) no_record
@@ -78,7 +78,7 @@ keys_in : (last : ℕ) (rs : List Record) → all (sound_record last) rs ≡ tru
 keys_in last [] s = tt
 keys_in last (r ∷ rs) s =
     let parts = and_parts (sound_record last r) (all (sound_record last) rs) s in
-    ((and_parts (is_key r.key) (leb r.timestamp last) parts.0).0, keys_in last rs parts.1)
+    ((and_parts (is_key r.key) (nat_le r.timestamp last) parts.0).0, keys_in last rs parts.1)
 
 laid_out : (l : RecordSlice) (last : ℕ) → sound_table l.memory.now l.kept last ≡ true → is_table_size (length l.memory.now) ≡ true → LaidOut (table_meaning l.memory.now l.kept last) l.memory.now
 laid_out l last s fit =
@@ -130,12 +130,12 @@ ok_fits true e = refl
 ok_fits false e = cc
 
 keyed : (last : ℕ) (rs : List Record) → all (sound_record last) rs ≡ true → all (λ r. is_key r.key) rs ≡ true
-keyed last rs s = all_from (sound_record last) (λ r. is_key r.key) (λ r h. (and_parts (is_key r.key) (leb r.timestamp last) h).0) rs s
+keyed last rs s = all_from (sound_record last) (λ r. is_key r.key) (λ r h. (and_parts (is_key r.key) (nat_le r.timestamp last) h).0) rs s
 
 drops_none : (e : ℕ → ℕ) (rs : List Record) → ((k : ℕ) → e k ≡ 0) → drop_firsts e rs ≡ rs
 drops_none e [] none = refl
 drops_none e (r ∷ rs) none =
-    cond-false (ltb 0 (e r.key)) _ _ (grind (arith, nat_tests, none r.key)) ∙ ap (λ xs. r ∷ xs) (drops_none e rs none)
+    cond-false (nat_lt 0 (e r.key)) _ _ (grind (arith, nat_tests, none r.key)) ∙ ap (λ xs. r ∷ xs) (drops_none e rs none)
 
 no_excess : (o : Option ℕ) (vs : List Version) → length vs ≤ 1 → excess 16 o vs ≡ 0
 no_excess None vs few = refl
@@ -180,16 +180,16 @@ module _ (b : Table) (t : ℕ) (ws : List Write) (takes : Takes b.last t ws) whe
       ∙ versions_together (after_writes 16 t ws rs) (keyed t (after_writes 16 t ws rs) sound_after)
 
   abbrev fits : Bool
-  fits = leb (length (after_writes 16 t ws listed)) (room_in mem)
+  fits = nat_le (length (after_writes 16 t ws listed)) (room_in mem)
 
-  fit_agrees : is_table_size (length mem) ≡ true → fits ≡ leb (versions_kept (with_writes 16 t ws m)) m.capacity
+  fit_agrees : is_table_size (length mem) ≡ true → fits ≡ nat_le (versions_kept (with_writes 16 t ws m)) m.capacity
   fit_agrees fit =
-      ap (λ xs. leb (length (after_writes 16 t ws xs)) (room_in mem)) (sym (shown_fit mem b.list.kept fit))
-      ∙ ap (λ k. leb k (room_in mem)) (sym versions_after)
-      ∙ ap (leb (versions_kept (with_writes 16 t ws m))) (fit_room mem fit ∙ sym (cond-true (is_table_size (length mem)) (length mem) keys fit))
+      ap (λ xs. nat_le (length (after_writes 16 t ws xs)) (room_in mem)) (sym (shown_fit mem b.list.kept fit))
+      ∙ ap (λ k. nat_le k (room_in mem)) (sym versions_after)
+      ∙ ap (nat_le (versions_kept (with_writes 16 t ws m))) (fit_room mem fit ∙ sym (cond-true (is_table_size (length mem)) (length mem) keys fit))
 
   -- in unfit memory there is no room for a write, and none in a new store of 64 versions
-  unfit_agrees : is_table_size (length mem) ≡ false → fits ≡ leb (versions_kept (with_writes 16 t ws m)) m.capacity
+  unfit_agrees : is_table_size (length mem) ≡ false → fits ≡ nat_le (versions_kept (with_writes 16 t ws m)) m.capacity
   unfit_agrees unfit =
       let none = unfit_room mem unfit in
       let some = takes.some in
@@ -204,7 +204,7 @@ module _ (b : Table) (t : ℕ) (ws : List Write) (takes : Takes b.last t ws) whe
       lt-leb _ _ (omega (arith, none, long, some))
       ∙ sym (lt-leb _ _ (omega (arith, more_here, cond-false (is_table_size (length mem)) (length mem) keys unfit)))
 
-  room_agrees : fits ≡ leb (versions_kept (with_writes 16 t ws m)) m.capacity
+  room_agrees : fits ≡ nat_le (versions_kept (with_writes 16 t ws m)) m.capacity
   room_agrees = ⊎_elim fit_agrees unfit_agrees (cases_Bool (is_table_size (length mem)))
 
   pub commit_room : if_fits (length (after_writes 16 t ws listed)) (room_in mem) ≡ if_fits (versions_kept (with_writes 16 t ws m)) m.capacity
