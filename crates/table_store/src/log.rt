@@ -39,7 +39,7 @@ fn last_time_before(timestamp: u64) -> u64
 }
 
 // How many versions the records have of each key.
-pub(crate) fn count_versions(records: &[Record]) -> PerKey
+fn count_versions(records: &[Record]) -> PerKey
     ensures { (k : ℕ) → number_for result k ≡ per_key (λ j. length (of_key j records.now)) k }
 {
     let mut counts = PerKey::none();
@@ -51,7 +51,7 @@ pub(crate) fn count_versions(records: &[Record]) -> PerKey
 }
 
 // How many of its oldest versions each written key drops, so that it has no more than the depth once it is written.
-pub(crate) fn excess_versions(records: &[Record], writes: &[Write], depth: usize) -> PerKey
+fn excess_versions(records: &[Record], writes: &[Write], depth: usize) -> PerKey
     ensures { (k : ℕ) → number_for result k ≡ per_key (λ j. excess depth (written_to j writes.now) (of_key j records.now)) k }
 {
     let counts = count_versions(records);
@@ -65,7 +65,7 @@ pub(crate) fn excess_versions(records: &[Record], writes: &[Write], depth: usize
 }
 
 // How many versions of each key are older than its newest one that is not above the horizon.
-pub(crate) fn outdated_versions(records: &[Record], horizon: u64) -> PerKey
+fn outdated_versions(records: &[Record], horizon: u64) -> PerKey
     ensures { (k : ℕ) → number_for result k ≡ per_key (λ j. outdated horizon (of_key j records.now)) k }
 {
     let mut counts = PerKey::none();
@@ -81,10 +81,9 @@ pub(crate) fn outdated_versions(records: &[Record], horizon: u64) -> PerKey
 }
 
 // How many records are left when each key drops its oldest ones, so many as are named for it.
-pub(crate) fn count_left(records: &[Record], dropped: PerKey) -> usize
-    ensures { result ≡ length (drop_firsts (number_for dropped) records.now) }
+fn count_left(records: &[Record], mut to_drop: PerKey) -> usize
+    ensures { result ≡ length (drop_firsts (number_for to_drop) records.now) }
 {
-    let mut to_drop = dropped;
     let mut left = 0;
     for record in records {
         if !to_drop.take_one(record.key) {
@@ -95,15 +94,14 @@ pub(crate) fn count_left(records: &[Record], dropped: PerKey) -> usize
 }
 
 // Drops of each key its oldest records, so many as are named for it.
-pub(crate) fn drop_oldest<L: RecordList>(log: &mut L, dropped: PerKey)
-    ensures { L.listing log.new ≡ with_records (drop_firsts (number_for dropped) (L.listing log.old).records) (L.listing log.old) }
+fn drop_oldest<L: RecordList>(log: &mut L, mut to_drop: PerKey)
+    ensures { L.listing log.new ≡ with_records (drop_firsts (number_for to_drop) (L.listing log.old).records) (L.listing log.old) }
 {
-    let mut to_drop = dropped;
     log.retain(|record| !to_drop.take_one(record.key));
 }
 
 // Adds a record for each write, as far as there is room.
-pub(crate) fn append<L: RecordList>(log: &mut L, timestamp: u64, writes: &[Write])
+fn append<L: RecordList>(log: &mut L, timestamp: u64, writes: &[Write])
     ensures { L.listing log.new ≡ with_all (map (written timestamp) writes.now) (L.listing log.old) }
 {
     for write in writes {
