@@ -1,5 +1,5 @@
 -- Numbers that are kept for each key while a list is walked: one more record, or one more write, changes one key's number.
-use Rattle.std.proofs.Common.{◌≡◌, ℕ, ◌+◌, ◌-◌, ◌<◌, ◌≤◌, Bool, true, false, cond, ◌&&◌, eqb, leb, List, [], ◌∷◌, ◌++◌, length, get_or, take, Some, None, filter, Option, sym, refl, ap, ◌∙◌, subst, ⊎_elim, arith}
+use Rattle.std.proofs.Common.{◌≡◌, ℕ, ◌+◌, ◌-◌, ◌<◌, ◌≤◌, Bool, true, false, if◌then◌else◌, ◌&&◌, ◌==◌, nat_le, List, [], ◌∷◌, ◌++◌, length, get_or, take, Some, None, filter, Option, sym, refl, ap, ◌∙◌, subst, ⊎_elim, arith}
 use Rattle.std.specs.Option.{option_or}
 use Rattle.std.proofs.lemmas.List.{length-map, length_push, length-take, take_more}
 use Rattle.std.proofs.lemmas.List.Sums.{length-filter, count_by-le-length}
@@ -20,26 +20,26 @@ use Rattle.table_store.specs.declared.record.Record.{Record}
 abbrev pub Numbers : PerKey → (ℕ → ℕ) → Type 0
 Numbers p f = (k : ℕ) → number_for p k ≡ per_key f k
 
-at_itself : (b : Bool) (x y n : ℕ) → (b ≡ true → y ≡ n) → cond (true && b) n (cond b x 0) ≡ cond b y 0
+at_itself : (b : Bool) (x y n : ℕ) → (b ≡ true → y ≡ n) → (if true && b then n else (if b then x else 0)) ≡ (if b then y else 0)
 at_itself true x y n e = sym (e refl)
 at_itself false x y n e = refl
 
 -- where a key is given its new number, and the others have theirs as before, all numbers are new
 module _ (p q : PerKey) (f f' : ℕ → ℕ) (key n : ℕ) (old : Numbers p f) (made : (k : ℕ) → number_for q k ≡ with (number_for p) key n k) where
-  set_from : (k : ℕ) → number_for q k ≡ cond (eqb k key && is_key key) n (per_key f k)
-  set_from k = made k ∙ ap (λ x. cond (eqb k key && is_key key) n x) (old k)
+  set_from : (k : ℕ) → number_for q k ≡ (if k == key && is_key key then n else per_key f k)
+  set_from k = made k ∙ ap (λ x. if k == key && is_key key then n else x) (old k)
 
   itself : (is_key key ≡ true → f' key ≡ n) → number_for q key ≡ per_key f' key
   itself here =
       set_from key
-      ∙ ap (λ b. cond (b && is_key key) n (per_key f key)) (eq-eqb key key refl)
+      ∙ ap (λ b. if b && is_key key then n else per_key f key) (eq-eqb key key refl)
       ∙ at_itself (is_key key) (f key) (f' key) n here
 
   other : (k : ℕ) → (key ≡ k → ⊥) → f' k ≡ f k → number_for q k ≡ per_key f' k
   other k ne same =
       set_from k
-      ∙ ap (λ b. cond (b && is_key key) n (per_key f k)) (ne_eqb k key (λ e. ne (sym e)))
-      ∙ ap (λ x. cond (is_key k) x 0) (sym same)
+      ∙ ap (λ b. if b && is_key key then n else per_key f k) (ne_eqb k key (λ e. ne (sym e)))
+      ∙ ap (λ x. if is_key k then x else 0) (sym same)
 
   pub set_more : (is_key key ≡ true → f' key ≡ n) → ((k : ℕ) → (key ≡ k → ⊥) → f' k ≡ f k) → Numbers q f'
   set_more here others k =
@@ -48,13 +48,13 @@ module _ (p q : PerKey) (f f' : ℕ → ℕ) (key n : ℕ) (old : Numbers p f) (
       (λ ne. other k ne (others k ne))
       (cases_eq key k)
 
-zero_at : (b : Bool) (x : ℕ) → x ≡ 0 → cond b x 0 ≡ 0
+zero_at : (b : Bool) (x : ℕ) → x ≡ 0 → (if b then x else 0) ≡ 0
 zero_at true x e = e
 zero_at false x e = refl
 
 -- numbers that agree at each key
 pub same_numbers : (p : PerKey) (f f' : ℕ → ℕ) → Numbers p f → ((k : ℕ) → f' k ≡ f k) → Numbers p f'
-same_numbers p f f' old same k = old k ∙ ap (λ x. cond (is_key k) x 0) (sym (same k))
+same_numbers p f f' old same k = old k ∙ ap (λ x. if is_key k then x else 0) (sym (same k))
 
 pub none_yet : (p : PerKey) → ((k : ℕ) → number_for p k ≡ 0) → (f : ℕ → ℕ) → ((k : ℕ) → f k ≡ 0) → Numbers p f
 none_yet p zero_each f none k = zero_each k ∙ sym (zero_at (is_key k) (f k) (none k))
@@ -78,15 +78,15 @@ abbrev pub outdated_in : ℕ → List Record → ℕ → ℕ
 outdated_in h rs k = outdated h (of_key k rs)
 
 -- one record more
-module _ (rs : List Record) (i : ℕ) (lt : i < length rs) (r : Record) (is : r ≡ get_or rs i no_record) where
-  here_key : has_key r.key (get_or rs i no_record) ≡ true
-  here_key = eq-eqb _ _ (sym (ap (λ x. x.key) is))
+module _ (rs : List Record) (i : ℕ) (lt : i < length rs) where
+  abbrev r : Record
+  r = get_or rs i no_record
 
   pub pushed_here : of_key r.key (take (i + 1) rs) ≡ of_key r.key (take i rs) ++ version_in r ∷ []
-  pushed_here = of_key_more_yes r.key rs i no_record lt here_key ∙ ap (λ x. of_key r.key (take i rs) ++ version_in x ∷ []) (sym is)
+  pushed_here = of_key_more_yes r.key rs i no_record lt (eq-eqb r.key r.key refl)
 
   pub same_elsewhere : (k : ℕ) → (r.key ≡ k → ⊥) → of_key k (take (i + 1) rs) ≡ of_key k (take i rs)
-  same_elsewhere k ne = of_key_more_no k rs i no_record lt (ne_eqb _ _ (λ e. ne (ap (λ x. x.key) is ∙ e)))
+  same_elsewhere k ne = of_key_more_no k rs i no_record lt (ne_eqb r.key k ne)
 
   pub count_more : (p q : PerKey) (n : ℕ) → Numbers p (counted (take i rs)) → n ≡ number_for p r.key → ((k : ℕ) → number_for q k ≡ with (number_for p) r.key (n + 1) k) → Numbers q (counted (take (i + 1) rs))
   count_more p q n old count made =
@@ -94,7 +94,7 @@ module _ (rs : List Record) (i : ℕ) (lt : i < length rs) (r : Record) (is : r 
       (λ key_in. ap length pushed_here ∙ length_push (of_key r.key (take i rs)) (version_in r) ∙ ap (λ m. m + 1) (sym (number_at p (counted (take i rs)) r.key n old count key_in)))
       (λ k ne. ap length (same_elsewhere k ne))
 
-  outdated_here : (h : ℕ) → outdated_in h (take (i + 1) rs) r.key ≡ cond (leb r.timestamp h) (counted (take i rs) r.key) (outdated_in h (take i rs) r.key)
+  outdated_here : (h : ℕ) → outdated_in h (take (i + 1) rs) r.key ≡ (if nat_le r.timestamp h then counted (take i rs) r.key else outdated_in h (take i rs) r.key)
   outdated_here h = ap (outdated h) pushed_here ∙ outdated_push h (of_key r.key (take i rs)) (version_in r)
 
   pub outdated_set :
@@ -102,14 +102,14 @@ module _ (rs : List Record) (i : ℕ) (lt : i < length rs) (r : Record) (is : r 
       ((k : ℕ) → number_for q k ≡ with (number_for p) r.key n k) → Numbers q (outdated_in h (take (i + 1) rs))
   outdated_set h p q counts n old counting count le made =
       set_more p q (outdated_in h (take i rs)) (outdated_in h (take (i + 1) rs)) r.key n old made
-      (λ key_in. outdated_here h ∙ cond-true (leb r.timestamp h) _ _ (le-leb r.timestamp h le) ∙ sym (number_at counts (counted (take i rs)) r.key n counting count key_in))
+      (λ key_in. outdated_here h ∙ cond-true (nat_le r.timestamp h) _ _ (le-leb r.timestamp h le) ∙ sym (number_at counts (counted (take i rs)) r.key n counting count key_in))
       (λ k ne. ap (outdated h) (same_elsewhere k ne))
 
   pub outdated_same : (h : ℕ) (p : PerKey) → Numbers p (outdated_in h (take i rs)) → h < r.timestamp → Numbers p (outdated_in h (take (i + 1) rs))
   outdated_same h p old lt_h =
       same_numbers p (outdated_in h (take i rs)) (outdated_in h (take (i + 1) rs)) old
       (λ k. ⊎_elim
-      (λ e. let at : ℕ → Type 0 = λ j. outdated_in h (take (i + 1) rs) j ≡ outdated_in h (take i rs) j in subst at e (outdated_here h ∙ cond-false (leb r.timestamp h) _ _ (lt-leb r.timestamp h lt_h)))
+      (λ e. let at : ℕ → Type 0 = λ j. outdated_in h (take (i + 1) rs) j ≡ outdated_in h (take i rs) j in subst at e (outdated_here h ∙ cond-false (nat_le r.timestamp h) _ _ (lt-leb r.timestamp h lt_h)))
       (λ ne. ap (outdated h) (same_elsewhere k ne))
       (cases_eq r.key k))
 
@@ -118,14 +118,14 @@ or_none : (o : Option ℕ) → option_or o None ≡ o
 or_none None = refl
 or_none (Some x) = refl
 
-earlier : (b : Bool) (x : ℕ) (o p : Option ℕ) → cond b (Some x) (option_or o p) ≡ option_or (cond b (Some x) o) p
+earlier : (b : Bool) (x : ℕ) (o p : Option ℕ) → (if b then Some x else option_or o p) ≡ option_or (if b then Some x else o) p
 earlier true x o p = refl
 earlier false x o p = refl
 
-written_push : (k : ℕ) (ws : List Write) (w : Write) → written_to k (ws ++ w ∷ []) ≡ option_or (written_to k ws) (cond (eqb w.key k) (Some w.value) None)
+written_push : (k : ℕ) (ws : List Write) (w : Write) → written_to k (ws ++ w ∷ []) ≡ option_or (written_to k ws) (if w.key == k then Some w.value else None)
 written_push k [] w = refl
 written_push k (v ∷ ws) w =
-    ap (λ o. cond (eqb v.key k) (Some v.value) o) (written_push k ws w) ∙ earlier (eqb v.key k) v.value (written_to k ws) (cond (eqb w.key k) (Some w.value) None)
+    ap (λ o. if v.key == k then Some v.value else o) (written_push k ws w) ∙ earlier (v.key == k) v.value (written_to k ws) (if w.key == k then Some w.value else None)
 
 excess_written : (depth : ℕ) (o : Option ℕ) (x : ℕ) (vs : List Version) → excess depth (option_or o (Some x)) vs ≡ length vs - (depth - 1)
 excess_written depth None x vs = refl
@@ -139,7 +139,7 @@ module _ (depth : ℕ) (rs : List Record) (ws : List Write) (i : ℕ) (lt : i < 
   abbrev write : Write
   write = get_or ws i zero_write
 
-  written_more : (k : ℕ) → written_to k (take (i + 1) ws) ≡ option_or (written_to k (take i ws)) (cond (eqb write.key k) (Some write.value) None)
+  written_more : (k : ℕ) → written_to k (take (i + 1) ws) ≡ option_or (written_to k (take i ws)) (if write.key == k then Some write.value else None)
   written_more k = ap (written_to k) (take_more ws i zero_write lt) ∙ written_push k (take i ws) write
 
   pub excess_more :
@@ -149,11 +149,11 @@ module _ (depth : ℕ) (rs : List Record) (ws : List Write) (i : ℕ) (lt : i < 
       set_more p q (excess_for depth (take i ws) rs) (excess_for depth (take (i + 1) ws) rs) write.key (n - (depth - 1)) old made
       (λ key_in.
       ap (λ o. excess depth o (of_key write.key rs))
-      (written_more write.key ∙ ap (λ b. option_or (written_to write.key (take i ws)) (cond b (Some write.value) None)) (eq-eqb write.key write.key refl))
+      (written_more write.key ∙ ap (λ b. option_or (written_to write.key (take i ws)) (if b then Some write.value else None)) (eq-eqb write.key write.key refl))
       ∙ excess_written depth (written_to write.key (take i ws)) write.value (of_key write.key rs)
       ∙ ap (λ m. m - (depth - 1)) (sym (number_at counts (counted rs) write.key n counting count key_in)))
       (λ k ne.
       ap (λ o. excess depth o (of_key k rs))
       (written_more k
-      ∙ ap (λ b. option_or (written_to k (take i ws)) (cond b (Some write.value) None)) (ne_eqb write.key k ne)
+      ∙ ap (λ b. option_or (written_to k (take i ws)) (if b then Some write.value else None)) (ne_eqb write.key k ne)
       ∙ or_none (written_to k (take i ws))))

@@ -1,6 +1,6 @@
 -- What dropping first records and adding the records of writes do to a list: its order, its soundness, and the versions
 -- of each key.
-use Rattle.std.proofs.Common.{◌≡◌, ℕ, zero, suc, ◌+◌, ◌-◌, ◌<◌, ◌≤◌, Bool, true, false, cond, ◌&&◌, eqb, ltb, List, [], ◌∷◌, ◌++◌, map, length, drop, Some, None, filter, Option, sym, refl, ap, ◌∙◌, ⊎_elim, arith}
+use Rattle.std.proofs.Common.{◌≡◌, ℕ, zero, suc, ◌+◌, ◌-◌, ◌<◌, ◌≤◌, Bool, true, false, if◌then◌else◌, ◌&&◌, ◌==◌, nat_lt, List, [], ◌∷◌, ◌++◌, map, length, drop, Some, None, filter, Option, sym, refl, ap, ◌∙◌, ⊎_elim, arith}
 use Rattle.std.specs.List.{AllByRecursion}
 use Rattle.std.proofs.lemmas.List.{append-nil, drop_all, drop-append-le, length_push}
 use Rattle.std.proofs.lemmas.Bool.{and_parts, and_from, cases_Bool, cond_both, cond-true, cond-false, eqb-true, eqb-false, eq-eqb, ne_eqb, ltb-true, ltb-false}
@@ -37,7 +37,7 @@ pub all_left : (p : Record → Bool) (e : ℕ → ℕ) (rs : List Record) → al
 all_left p e [] a = refl
 all_left p e (r ∷ rs) a =
     let parts = and_parts (p r) (all p rs) a in
-    cond_both (ltb 0 (e r.key)) (drop_firsts (one_less e r.key) rs) (r ∷ drop_firsts e rs) (λ xs. all p xs ≡ true)
+    cond_both (nat_lt 0 (e r.key)) (drop_firsts (one_less e r.key) rs) (r ∷ drop_firsts e rs) (λ xs. all p xs ≡ true)
     (λ _. all_left p (one_less e r.key) rs parts.1)
     (λ _. and_from (p r) (all p (drop_firsts e rs)) parts.0 (all_left p e rs parts.1))
 
@@ -47,7 +47,7 @@ pub order_left : (e : ℕ → ℕ) (rs : List Record) → in_order rs ≡ true �
 order_left e [] o = refl
 order_left e (r ∷ rs) o =
     let parts = and_parts (all (is_before r) rs) (in_order rs) o in
-    cond_both (ltb 0 (e r.key)) (drop_firsts (one_less e r.key) rs) (r ∷ drop_firsts e rs) (λ xs. in_order xs ≡ true)
+    cond_both (nat_lt 0 (e r.key)) (drop_firsts (one_less e r.key) rs) (r ∷ drop_firsts e rs) (λ xs. in_order xs ≡ true)
     (λ _. order_left (one_less e r.key) rs parts.1)
     (λ _. and_from (all (is_before r) (drop_firsts e rs)) (in_order (drop_firsts e rs)) (all_left (is_before r) e rs parts.0) (order_left e rs parts.1))
 
@@ -64,10 +64,10 @@ order_both (x ∷ xs) ys a b ahead =
 -- The versions of a key.
 
 pub cons_yes : (k : ℕ) (r : Record) (rs : List Record) → has_key k r ≡ true → of_key k (r ∷ rs) ≡ version_in r ∷ of_key k rs
-cons_yes k r rs e = ap (λ b. map version_in (cond b (r ∷ filter (has_key k) rs) (filter (has_key k) rs))) e
+cons_yes k r rs e = ap (λ b. map version_in (if b then r ∷ filter (has_key k) rs else filter (has_key k) rs)) e
 
 pub cons_no : (k : ℕ) (r : Record) (rs : List Record) → has_key k r ≡ false → of_key k (r ∷ rs) ≡ of_key k rs
-cons_no k r rs e = ap (λ b. map version_in (cond b (r ∷ filter (has_key k) rs) (filter (has_key k) rs))) e
+cons_no k r rs e = ap (λ b. map version_in (if b then r ∷ filter (has_key k) rs else filter (has_key k) rs)) e
 
 drop_some : (n : ℕ) (v : Version) (vs : List Version) → 0 < n → drop (n - 1) vs ≡ drop n (v ∷ vs)
 drop_some zero v vs lt = absurd (omega arith)
@@ -78,22 +78,22 @@ module _ (k : ℕ) (e : ℕ → ℕ) (r : Record) (rs : List Record) where
   abbrev Left : List Record → Type 0
   Left xs = of_key k xs ≡ drop (e k) (of_key k (r ∷ rs))
 
-  one_goes : ltb 0 (e r.key) ≡ true → of_key k (drop_firsts (one_less e r.key) rs) ≡ drop (one_less e r.key k) (of_key k rs) → Left (drop_firsts (one_less e r.key) rs)
+  one_goes : nat_lt 0 (e r.key) ≡ true → of_key k (drop_firsts (one_less e r.key) rs) ≡ drop (one_less e r.key k) (of_key k rs) → Left (drop_firsts (one_less e r.key) rs)
   one_goes some rest =
       ⊎_elim
       (λ is.
       let same = eqb-true r.key k is in
       rest
-      ∙ ap (λ n. drop n (of_key k rs)) (cond-true (eqb k r.key) (e k - 1) (e k) (eq-eqb k r.key (sym same)))
+      ∙ ap (λ n. drop n (of_key k rs)) (cond-true (k == r.key) (e k - 1) (e k) (eq-eqb k r.key (sym same)))
       ∙ drop_some (e k) (version_in r) (of_key k rs) (omega (arith, ltb-true 0 (e r.key) some, ap e same))
       ∙ ap (drop (e k)) (sym (cons_yes k r rs is)))
       (λ other.
       rest
-      ∙ ap (λ n. drop n (of_key k rs)) (cond-false (eqb k r.key) (e k - 1) (e k) (ne_eqb k r.key (λ same. eqb-false r.key k other (sym same))))
+      ∙ ap (λ n. drop n (of_key k rs)) (cond-false (k == r.key) (e k - 1) (e k) (ne_eqb k r.key (λ same. eqb-false r.key k other (sym same))))
       ∙ ap (drop (e k)) (sym (cons_no k r rs other)))
       (cases_Bool (has_key k r))
 
-  one_stays : ltb 0 (e r.key) ≡ false → of_key k (drop_firsts e rs) ≡ drop (e k) (of_key k rs) → Left (r ∷ drop_firsts e rs)
+  one_stays : nat_lt 0 (e r.key) ≡ false → of_key k (drop_firsts e rs) ≡ drop (e k) (of_key k rs) → Left (r ∷ drop_firsts e rs)
   one_stays none rest =
       ⊎_elim
       (λ is.
@@ -109,7 +109,7 @@ module _ (k : ℕ) (e : ℕ → ℕ) (r : Record) (rs : List Record) where
 pub of_key_left : (k : ℕ) (e : ℕ → ℕ) (rs : List Record) → of_key k (drop_firsts e rs) ≡ drop (e k) (of_key k rs)
 of_key_left k e [] = sym (drop_all (e k) [] (omega arith))
 of_key_left k e (r ∷ rs) =
-    cond_both (ltb 0 (e r.key)) (drop_firsts (one_less e r.key) rs) (r ∷ drop_firsts e rs) (Left k e r rs)
+    cond_both (nat_lt 0 (e r.key)) (drop_firsts (one_less e r.key) rs) (r ∷ drop_firsts e rs) (Left k e r rs)
     (λ some. one_goes k e r rs some (of_key_left k (one_less e r.key) rs))
     (λ none. one_stays k e r rs none (of_key_left k e rs))
 
@@ -118,7 +118,7 @@ pub of_key_none : (k : ℕ) (rs : List Record) → all (λ r. is_key r.key) rs �
 of_key_none k [] a past = refl
 of_key_none k (r ∷ rs) a past =
     let parts = and_parts (is_key r.key) (all (λ q. is_key q.key) rs) a in
-    let other : eqb r.key k ≡ false = grind (arith, nat_tests, parts.0) in
+    let other : (r.key == k) ≡ false = grind (arith, nat_tests, parts.0) in
     cons_no k r rs other ∙ of_key_none k rs parts.1 past
 
 -- The records of writes.
@@ -134,11 +134,11 @@ of_key_written k t least (w ∷ ws) rising =
     let same = eqb-true w.key k is in
     cons_yes k (written t w) (map (written t) ws) is
     ∙ ap (λ vs. version_of t w.value ∷ vs) (rest ∙ ap (versions_of (Some t)) (unwritten_below k (suc w.key) ws (omega (arith, same)) later))
-    ∙ ap (versions_of (Some t)) (sym (cond-true (eqb w.key k) (Some w.value) (written_to k ws) is)))
+    ∙ ap (versions_of (Some t)) (sym (cond-true (w.key == k) (Some w.value) (written_to k ws) is)))
     (λ other.
     cons_no k (written t w) (map (written t) ws) other ∙ rest
-    ∙ ap (versions_of (Some t)) (sym (cond-false (eqb w.key k) (Some w.value) (written_to k ws) other)))
-    (cases_Bool (eqb w.key k))
+    ∙ ap (versions_of (Some t)) (sym (cond-false (w.key == k) (Some w.value) (written_to k ws) other)))
+    (cases_Bool (w.key == k))
 
 written_sound : (t least : ℕ) (ws : List Write) → rising_from least ws ≡ true → all (sound_record t) (map (written t) ws) ≡ true
 written_sound t least [] rising = refl
@@ -235,7 +235,7 @@ of_key_prune h rs keyed k =
 -- All keys together.
 
 -- a record adds one to the versions of the keys below n, if its key is one of them
-one_more_below : (n : ℕ) (r : Record) (rs : List Record) → versions_below n (λ k. of_key k (r ∷ rs)) ≡ versions_below n (λ k. of_key k rs) + cond (ltb r.key n) 1 0
+one_more_below : (n : ℕ) (r : Record) (rs : List Record) → versions_below n (λ k. of_key k (r ∷ rs)) ≡ versions_below n (λ k. of_key k rs) + (if nat_lt r.key n then 1 else 0)
 unfolding versions_below
 one_more_below zero r rs = grind (arith, nat_tests)
 one_more_below (suc n) r rs =
@@ -243,12 +243,12 @@ one_more_below (suc n) r rs =
     ⊎_elim
     (λ is.
     let here = ap length (cons_yes n r rs is) in
-    let lower : ltb r.key n ≡ false = grind (arith, nat_tests) in
-    let upper : ltb r.key (suc n) ≡ true = grind (arith, nat_tests) in
-    omega (arith, rest, here, cond-false {A = ℕ} (ltb r.key n) 1 0 lower, cond-true {A = ℕ} (ltb r.key (suc n)) 1 0 upper))
+    let lower : nat_lt r.key n ≡ false = grind (arith, nat_tests) in
+    let upper : nat_lt r.key (suc n) ≡ true = grind (arith, nat_tests) in
+    omega (arith, rest, here, cond-false {A = ℕ} (nat_lt r.key n) 1 0 lower, cond-true {A = ℕ} (nat_lt r.key (suc n)) 1 0 upper))
     (λ other.
     let here = ap length (cons_no n r rs other) in
-    let same : ◌≡◌ {A = ℕ} (cond (ltb r.key (suc n)) 1 0) (cond (ltb r.key n) 1 0) = grind (arith, nat_tests) in
+    let same : ◌≡◌ {A = ℕ} (if nat_lt r.key (suc n) then 1 else 0) (if nat_lt r.key n then 1 else 0) = grind (arith, nat_tests) in
     omega (arith, rest, here, same))
     (cases_Bool (has_key n r))
 
@@ -261,25 +261,25 @@ pub versions_together : (rs : List Record) → all (λ r. is_key r.key) rs ≡ t
 versions_together [] a = none_below keys
 versions_together (r ∷ rs) a =
     let parts = and_parts (is_key r.key) (all (λ q. is_key q.key) rs) a in
-    omega (arith, one_more_below keys r rs, versions_together rs parts.1, cond-true {A = ℕ} (ltb r.key keys) 1 0 parts.0)
+    omega (arith, one_more_below keys r rs, versions_together rs parts.1, cond-true {A = ℕ} (nat_lt r.key keys) 1 0 parts.0)
 
 -- A new store.
 
-first_keys : (n : ℕ) → all (λ r. ltb r.key n && eqb r.timestamp 0) (first_records n) ≡ true
+first_keys : (n : ℕ) → all (λ r. nat_lt r.key n && r.timestamp == 0) (first_records n) ≡ true
 unfolding first_records
 first_keys zero = refl
 first_keys (suc n) =
-    all_both (λ r. ltb r.key (suc n) && eqb r.timestamp 0) (first_records n) (record_of n 0 0 ∷ [])
-    (all_from (λ r. ltb r.key n && eqb r.timestamp 0) (λ r. ltb r.key (suc n) && eqb r.timestamp 0) (λ r h. grind (arith, nat_tests)) (first_records n) (first_keys n))
+    all_both (λ r. nat_lt r.key (suc n) && r.timestamp == 0) (first_records n) (record_of n 0 0 ∷ [])
+    (all_from (λ r. nat_lt r.key n && r.timestamp == 0) (λ r. nat_lt r.key (suc n) && r.timestamp == 0) (λ r h. grind (arith, nat_tests)) (first_records n) (first_keys n))
     (grind (arith, nat_tests))
 
 pub first_sound : (last : ℕ) → all (sound_record last) (first_records keys) ≡ true
-first_sound last = all_from (λ r. ltb r.key keys && eqb r.timestamp 0) (sound_record last) (λ r h. grind (arith, nat_tests)) (first_records keys) (first_keys keys)
+first_sound last = all_from (λ r. nat_lt r.key keys && r.timestamp == 0) (sound_record last) (λ r h. grind (arith, nat_tests)) (first_records keys) (first_keys keys)
 
-ahead_of_next : (n : ℕ) (rs : List Record) → all (λ r. ltb r.key n && eqb r.timestamp 0) rs ≡ true → Ahead rs (record_of n 0 0 ∷ [])
+ahead_of_next : (n : ℕ) (rs : List Record) → all (λ r. nat_lt r.key n && r.timestamp == 0) rs ≡ true → Ahead rs (record_of n 0 0 ∷ [])
 ahead_of_next n [] a = tt
 ahead_of_next n (r ∷ rs) a =
-    let parts = and_parts (ltb r.key n && eqb r.timestamp 0) (all (λ q. ltb q.key n && eqb q.timestamp 0) rs) a in
+    let parts = and_parts (nat_lt r.key n && r.timestamp == 0) (all (λ q. nat_lt q.key n && q.timestamp == 0) rs) a in
     (grind (arith, nat_tests, parts.0), ahead_of_next n rs parts.1)
 
 pub first_order : (n : ℕ) → in_order (first_records n) ≡ true
@@ -292,25 +292,25 @@ unfolding first_records
 first_length zero = refl
 first_length (suc n) = omega (arith, length_push (first_records n) (record_of n 0 0), first_length n)
 
-first_versions : (n k : ℕ) → of_key k (first_records n) ≡ cond (ltb k n) (version_of 0 0 ∷ []) []
+first_versions : (n k : ℕ) → of_key k (first_records n) ≡ (if nat_lt k n then version_of 0 0 ∷ [] else [])
 unfolding first_records
-first_versions zero k = sym (cond-false (ltb k 0) _ _ (grind (arith, nat_tests)))
+first_versions zero k = sym (cond-false (nat_lt k 0) _ _ (grind (arith, nat_tests)))
 first_versions (suc n) k =
     of_key_append k (first_records n) (record_of n 0 0 ∷ [])
     ∙ ap (λ vs. vs ++ of_key k (record_of n 0 0 ∷ [])) (first_versions n k)
     ∙ ⊎_elim
     (λ is.
-    let lower : ltb k n ≡ false = grind (arith, nat_tests) in
-    let upper : ltb k (suc n) ≡ true = grind (arith, nat_tests) in
-    ap (λ b. cond b (version_of 0 0 ∷ []) [] ++ of_key k (record_of n 0 0 ∷ [])) lower
+    let lower : nat_lt k n ≡ false = grind (arith, nat_tests) in
+    let upper : nat_lt k (suc n) ≡ true = grind (arith, nat_tests) in
+    ap (λ b. (if b then version_of 0 0 ∷ [] else []) ++ of_key k (record_of n 0 0 ∷ [])) lower
     ∙ cons_yes k (record_of n 0 0) [] is
-    ∙ sym (cond-true (ltb k (suc n)) _ _ upper))
+    ∙ sym (cond-true (nat_lt k (suc n)) _ _ upper))
     (λ other.
-    let same : ltb k n ≡ ltb k (suc n) = grind (arith, nat_tests) in
-    ap (λ vs. cond (ltb k n) (version_of 0 0 ∷ []) [] ++ vs) (cons_no k (record_of n 0 0) [] other)
+    let same : nat_lt k n ≡ nat_lt k (suc n) = grind (arith, nat_tests) in
+    ap (λ vs. (if nat_lt k n then version_of 0 0 ∷ [] else []) ++ vs) (cons_no k (record_of n 0 0) [] other)
     ∙ append-nil _
-    ∙ ap (λ b. cond b (version_of 0 0 ∷ []) []) same)
-    (cases_Bool (eqb n k))
+    ∙ ap (λ b. if b then version_of 0 0 ∷ [] else []) same)
+    (cases_Bool (n == k))
 
-pub first_kept : (k : ℕ) → of_key k (first_records keys) ≡ cond (is_key k) (version_of 0 0 ∷ []) []
+pub first_kept : (k : ℕ) → of_key k (first_records keys) ≡ (if is_key k then version_of 0 0 ∷ [] else [])
 first_kept k = first_versions keys k

@@ -4,9 +4,9 @@ pub mod Looks
 pub mod Counting
 pub mod Dropping
 pub mod Adding
+pub mod Compacting
 pub mod Memory
 pub mod Layouts
 pub mod Uniqueness
-pub mod Tabling
 pub mod Sameness
-pub mod Changing
+pub mod Tabling

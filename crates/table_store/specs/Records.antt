@@ -1,7 +1,9 @@
 -- Lists of records, oldest first: the versions that they hold of each key, and what is left when each key drops some.
-use Rattle.std.specs.Prelude.{ℕ, zero, suc, ◌-◌, Bool, cond, List, [], ◌∷◌, ◌++◌, map, length, take, Some, None, fold, filter, Option, ◌==◌, nat_lt}
+use Rattle.std.specs.Prelude.{ℕ, zero, suc, ◌-◌, Bool, if◌then◌else◌, List, [], ◌∷◌, ◌++◌, map, length, take, Some, None, Ok, Err, fold, filter, Option, Result, ◌==◌, nat_lt, nat_le}
+use Rattle.snapshot.specs.declared.fault.Fault.{Fault}
+use Rattle.snapshot.specs.declared.fault.Refusal.TheVariants.{CapacityExceeded}
 use Rattle.snapshot.specs.declared.account.Write.{Write}
-use Rattle.store.specs.Meaning.{version_of, outdated, written_to}
+use Rattle.store.specs.Meaning.{version_of, outdated, store_fault, written_to}
 use Rattle.store.specs.declared.version.Version.{Version}
 use Rattle.table_store.specs.PerKeys.{one_less, per_key}
 use Rattle.table_store.specs.declared.record.Record.{Record}
@@ -16,13 +18,25 @@ no_record = record_of 0 0 0
 abbrev pub written : ℕ → Write → Record
 written t w = record_of w.key t w.value
 
--- one record more, where there is room for it
-abbrev pub with_one_more : ℕ → List Record → Record → List Record
-with_one_more room rs r = take room (rs ++ (r ∷ []))
+-- Lists in memory.
 
--- a record more for each write at this timestamp, as far as there is room
-abbrev pub with_written : ℕ → ℕ → List Record → List Write → List Record
-with_written room t rs ws = fold (λ xs w. with_one_more room xs (written t w)) rs ws
+-- the records of a list, and how many its memory has room for
+pub record Listing : Type 0 where
+  pub records : List Record
+  pub room : ℕ
+
+abbrev pub with_records : List Record → Listing → Listing
+with_records rs l = record { records = rs; room = l.room }
+
+-- one record more, where there is room for it
+abbrev pub with_one_more : Listing → Record → Listing
+with_one_more l r = with_records (take l.room (l.records ++ (r ∷ []))) l
+
+-- these records more, as far as there is room
+abbrev pub with_all : List Record → Listing → Listing
+with_all rs l = fold with_one_more l rs
+
+-- What each key has, and what it drops.
 
 abbrev pub has_key : ℕ → Record → Bool
 has_key k r = r.key == k
@@ -38,12 +52,16 @@ of_key k rs = map version_in (filter (has_key k) rs)
 abbrev pub drop_firsts : (ℕ → ℕ) → List Record → List Record
 drop_firsts e [] = []
 drop_firsts e (r ∷ rs) =
-    cond (nat_lt 0 (e r.key)) (drop_firsts (one_less e r.key) rs) (r ∷ drop_firsts e rs)
+    if nat_lt 0 (e r.key) then drop_firsts (one_less e r.key) rs else r ∷ drop_firsts e rs
 
 -- how many of a key's versions have to go so that with one more there are no more than the depth; none if it gets no more
 abbrev pub excess : ℕ → Option ℕ → List Version → ℕ
 excess depth None vs = 0
 excess depth (Some x) vs = length vs - (depth - 1)
+
+-- refused where there is no room for so many
+abbrev pub if_fits : ℕ → ℕ → Result (Unit {0}) Fault
+if_fits count room = if nat_le count room then Ok tt else Err (store_fault CapacityExceeded)
 
 -- the list after a commit of these writes: the written keys drop what is too much, and each write adds a record
 abbrev pub after_writes : ℕ → ℕ → List Write → List Record → List Record

@@ -1,8 +1,7 @@
 -- What a table store means, and what is promised of its memory.
-use Rattle.std.specs.Prelude.{◌≡◌, ℕ, Bool, false, cond, List, length, nat_le}
-use Rattle.snapshot.specs.declared.account.Write.{Write}
-use Rattle.store.specs.Meaning.{Meaning, pruned_at, versions_kept, with_writes}
-use Rattle.table_store.specs.Tables.{HeldIn, is_table_size, table_depth, table_meaning}
+use Rattle.std.specs.Prelude.{◌≡◌, false, length}
+use Rattle.store.specs.Meaning.{Meaning}
+use Rattle.table_store.specs.Tables.{HeldIn, is_table_size, table_meaning}
 use Rattle.table_store.specs.declared.table.Table.{Table}
 
 abbrev pub meaning_of : Table → Meaning
@@ -16,17 +15,3 @@ HoldsVersions t = HeldIn t.list.memory.now t.list.kept t.last
 abbrev pub LeavesUnfit : Table → Table → Type 0
 LeavesUnfit before after =
     is_table_size (length before.list.memory.now) ≡ false → after.list.memory.now ≡ before.list.memory.now
-
--- the writes were taken at t, or there was no room for them and nothing has changed
-pub record Written (before after : Table) (t : ℕ) (ws : List Write) (roomy : Bool) : Type 0 where
-  pub answer : roomy ≡ nat_le (versions_kept (with_writes table_depth t ws (meaning_of before))) (meaning_of before).capacity
-  pub meaning : meaning_of after ≡ cond roomy (with_writes table_depth t ws (meaning_of before)) (meaning_of before)
-  pub unchanged : roomy ≡ false → after ≡ before
-  pub laid : HoldsVersions after
-  pub alone : LeavesUnfit before after
-
--- what was outdated at h has been dropped
-pub record Pruned (before after : Table) (h : ℕ) : Type 0 where
-  pub meaning : meaning_of after ≡ pruned_at h (meaning_of before)
-  pub laid : HoldsVersions after
-  pub alone : LeavesUnfit before after

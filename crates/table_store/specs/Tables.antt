@@ -1,13 +1,13 @@
 -- The memory of a table store: what it lists, what it means, and how it is laid out.
-use Rattle.std.specs.Prelude.{◌≡◌, ℕ, ◌-◌, ◌<◌, ◌≤◌, min, Bool, true, false, cond, ◌&&◌, ◌||◌, List, [], ◌∷◌, ◌++◌, length, take, drop, replicate, Ok, Err, Result, ◌==◌, nat_le, nat_lt}
+use Rattle.std.specs.Prelude.{◌≡◌, ℕ, ◌-◌, ◌<◌, ◌≤◌, Bool, true, if◌then◌else◌, ◌&&◌, ◌||◌, List, [], ◌∷◌, ◌++◌, length, take, drop, replicate, Ok, Err, Result, ◌==◌, nat_le, nat_lt}
 use Rattle.std.specs.List.{AllByRecursion}
 use Rattle.snapshot.specs.Accounts.{all, rising_from}
 use Rattle.snapshot.specs.Limits.{keys, least_records, most_records, is_key}
 use Rattle.snapshot.specs.declared.account.Write.{Write}
 use Rattle.snapshot.specs.declared.fault.Fault.{Fault}
 use Rattle.snapshot.specs.declared.fault.Refusal.TheVariants.{UnfitMemory}
-use Rattle.store.specs.Meaning.{Meaning, new_store, store_fault}
-use Rattle.table_store.specs.Records.{first_records, no_record, of_key}
+use Rattle.store.specs.Meaning.{Meaning, store_fault}
+use Rattle.table_store.specs.Records.{Listing, first_records, no_record, of_key}
 use Rattle.table_store.specs.declared.record.Record.{Record}
 
 -- the most versions of one key
@@ -20,28 +20,28 @@ is_table_size n = nat_le least_records n && nat_le n most_records
 
 -- how many records there is room for: all, or none in unfit memory
 abbrev pub room_in : List Record → ℕ
-room_in mem = cond (is_table_size (length mem)) (length mem) 0
+room_in mem = if is_table_size (length mem) then length mem else 0
 
--- the first records, as many as are kept
-abbrev pub listed_in : List Record → ℕ → List Record
-listed_in mem n = take (min n (room_in mem)) mem
+-- the list in memory: the first records, as many as are kept
+abbrev pub listing_in : List Record → ℕ → Listing
+listing_in mem n = record { records = take n mem; room = room_in mem }
 
 abbrev pub is_zero : Record → Bool
 is_zero r = r.key == 0 && r.timestamp == 0 && r.value == 0
 
 -- all that comes after them is zero
 abbrev pub zeros_after : List Record → ℕ → Bool
-zeros_after mem n = all is_zero (drop (min n (room_in mem)) mem)
+zeros_after mem n = all is_zero (drop n mem)
 
 -- What a table means.
 
 -- the records that it shows: those listed, or in unfit memory those of a new store
 abbrev pub shown_in : List Record → ℕ → List Record
-shown_in mem n = cond (is_table_size (length mem)) (listed_in mem n) (first_records keys)
+shown_in mem n = if is_table_size (length mem) then take n mem else first_records keys
 
 -- as many as the memory has records; 64 in unfit memory, so that no commit fits
 abbrev pub capacity_of : ℕ → ℕ
-capacity_of size = cond (is_table_size size) size keys
+capacity_of size = if is_table_size size then size else keys
 
 abbrev pub table_meaning : List Record → ℕ → ℕ → Meaning
 table_meaning mem n last =
@@ -49,7 +49,7 @@ table_meaning mem n last =
 
 -- a table's memory is checked by a call of its own
 abbrev pub memory_check : ℕ → Result (Unit {0}) Fault
-memory_check size = cond (is_table_size size) (Ok tt) (Err (store_fault UnfitMemory))
+memory_check size = if is_table_size size then Ok tt else Err (store_fault UnfitMemory)
 
 -- How its records lie.
 
@@ -65,10 +65,9 @@ in_order (r ∷ rs) = all (is_before r) rs && in_order rs
 abbrev pub sound_record : ℕ → Record → Bool
 sound_record last r = is_key r.key && nat_le r.timestamp last
 
--- what holds of every table: the records that it shows are sound and in order, and zeros follow them in its memory
+-- what holds of every table: the records that it shows are sound and in order
 abbrev pub sound_table : List Record → ℕ → ℕ → Bool
-sound_table mem n last =
-    all (sound_record last) (shown_in mem n) && in_order (shown_in mem n) && cond (is_table_size (length mem)) (zeros_after mem n) true
+sound_table mem n last = all (sound_record last) (shown_in mem n) && in_order (shown_in mem n)
 
 -- the memory holds the kept versions from the start, by timestamp, then key, and zeros after them
 pub record LaidOut (m : Meaning) (mem : List Record) : Type 0 where
@@ -86,13 +85,6 @@ OnlyLayout m mem = (other : List Record) → length other ≡ length mem → Lai
 abbrev pub HeldIn : List Record → ℕ → ℕ → Type 0
 HeldIn mem n last =
     is_table_size (length mem) ≡ true → LaidOut (table_meaning mem n last) mem × OnlyLayout (table_meaning mem n last) mem
-
--- memory that has become that of a new store: it is sound, means a new store and holds it, or is unfit and left alone
-pub record MadeNew (before after : List Record) (n : ℕ) : Type 0 where
-  pub sound : sound_table after n 0 ≡ true
-  pub meaning : table_meaning after n 0 ≡ new_store (capacity_of (length before))
-  pub held : HeldIn after n 0
-  pub alone : is_table_size (length before) ≡ false → after ≡ before
 
 -- writes that a table can take at a timestamp: some, with rising keys, and later than last
 pub record Takes (last t : ℕ) (ws : List Write) : Type 0 where

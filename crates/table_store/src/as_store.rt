@@ -1,14 +1,15 @@
 // The table store: up to 16 versions of a key, in memory of 64 to 1,024 records that a caller lends.
 ghost use Rattle.std.specs.Prelude.{◌≡◌, true, false, length, OnErr, OnOk};
 ghost use Rattle.std.proofs.Common.{lit≤};
-ghost use Rattle.store.specs.Meaning.{new_store, newest_at, commit_answer, after_commit, after_prune};
-ghost use Rattle.snapshot.specs.Limits.{is_key};
-ghost use Rattle.table_store.specs.Stores.{HoldsVersions, LeavesUnfit, Pruned, Written, meaning_of};
-ghost use Rattle.table_store.specs.Tables.{MadeNew, Takes, capacity_of, is_table_size, memory_check, table_depth};
+ghost use Rattle.store.specs.Meaning.{new_store, newest_at, commit_answer, after_commit, after_prune, pruned_at, versions_kept, with_writes};
+ghost use Rattle.snapshot.specs.Limits.{is_key, keys};
+ghost use Rattle.table_store.specs.Records.{first_records, if_fits};
+ghost use Rattle.table_store.specs.Stores.{HoldsVersions, LeavesUnfit, meaning_of};
+ghost use Rattle.table_store.specs.Tables.{Takes, capacity_of, is_table_size, memory_check, shown_in, table_depth};
 
 use crate::log::{drop_outdated, newest_at, start, write_all};
 use crate::record::{Record, RecordList};
-use crate::slice::{RecordSlice, room_in};
+use crate::slice::{RecordSlice, is_fit};
 use crate::table::Table;
 use snapshot::account::{Reading, Write};
 use snapshot::fault::{Fault, Layer, Refusal};
@@ -20,10 +21,11 @@ impl<'a> Table<'a> {
     pub fn check(memory: &[Record]) -> Result<(), Fault>
         ensures { result ≡ memory_check (length memory.now) }
     {
-        if room_in(memory) == 0 {
-            return Err(Fault::unnamed(Refusal::UnfitMemory, Layer::Store));
+        if is_fit(memory) {
+            Ok(())
+        } else {
+            Err(Fault::unnamed(Refusal::UnfitMemory, Layer::Store))
         }
-        Ok(())
     }
 
     // A new store in this memory. Unfit memory is left alone, and the store in it takes no commit.
@@ -47,51 +49,57 @@ impl<'a> Table<'a> {
     fn newest(&self, key: u8, time: u64) -> Option<Reading>
         ensures { is_key key ≡ true → result ≡ newest_at time self.now.last ((meaning_of self.now).kept key) }
     {
-        if self.list.room() == 0 {
-            return Some(Reading {
+        if self.list.is_fit() {
+            newest_at(self.list.records(), key, time, self.last)
+        } else {
+            Some(Reading {
                 value: 0,
                 timestamp: 0,
                 promise: self.last,
-            });
+            })
         }
-        newest_at(&self.list, key, time, self.last)
     }
 
-    // Commits the writes at this timestamp, and answers whether there was room for them.
-    fn write(&mut self, timestamp: u64, writes: &[Write]) -> bool
+    // Commits the writes at this timestamp; refused, with nothing changed, where there is no room for them.
+    fn write(&mut self, timestamp: u64, writes: &[Write]) -> Result<(), Fault>
         requires { Takes self.old.last timestamp writes.now }
-        ensures { Written self.old self.new timestamp writes.now result }
+        ensures answer { result ≡ if_fits (versions_kept (with_writes table_depth timestamp writes.now (meaning_of self.old))) (meaning_of self.old).capacity }
+        ensures after { OnOk result (meaning_of self.new ≡ with_writes table_depth timestamp writes.now (meaning_of self.old)) }
+        ensures unchanged { OnErr result (self.new ≡ self.old) }
+        ensures laid { OnOk result (HoldsVersions self.new) }
+        ensures alone { LeavesUnfit self.old self.new }
     {
-        if !write_all(&mut self.list, timestamp, writes, Self::DEPTH) {
-            return false;
-        }
+        write_all(&mut self.list, timestamp, writes, Self::DEPTH)?;
         self.last = timestamp;
-        true
+        Ok(())
     }
 
     // Drops of each key what is outdated at this time.
     fn forget(&mut self, time: u64)
-        ensures { Pruned self.old self.new time }
+        ensures after { meaning_of self.new ≡ pruned_at time (meaning_of self.old) }
+        ensures laid { HoldsVersions self.new }
+        ensures alone { LeavesUnfit self.old self.new }
     {
-        if self.list.room() > 0 {
+        if self.list.is_fit() {
             drop_outdated(&mut self.list, time);
         }
     }
 }
 
 // The list of a new store in this memory; unfit memory is left alone.
-fn first_list<'a>(memory: &'a mut [Record]) -> RecordSlice<'a>
-    ensures { MadeNew memory.old result.memory.now result.kept }
+fn first_list(memory: &mut [Record]) -> RecordSlice<'_>
+    ensures shown { shown_in result.memory.now result.kept ≡ first_records keys }
+    ensures size { length result.memory.now ≡ length memory.old }
+    ensures alone { is_table_size (length memory.old) ≡ false → result.memory.now ≡ memory.old }
 {
-    let kept = memory.len();
-    let mut list = RecordSlice { memory, kept };
-    if list.room() > 0 {
+    let mut list = RecordSlice::new(memory);
+    if list.is_fit() {
         start(&mut list);
     }
     list
 }
 
-impl<'a> Reads for Table<'a> {
+impl Reads for Table<'_> {
     ghost meaning = { meaning_of };
 
     fn last(&self) -> u64 {
@@ -106,7 +114,7 @@ impl<'a> Reads for Table<'a> {
 }
 
 // Each call does to the meaning what the trait says; `laid` and `alone` say what it does to the records.
-impl<'a> Store for Table<'a> {
+impl Store for Table<'_> {
     ghost depth = { table_depth };
 
     ghost not_none = { lit≤ tt };
@@ -127,11 +135,8 @@ impl<'a> Store for Table<'a> {
         ensures alone { LeavesUnfit self.old self.new }
     {
         let timestamp = check_commit(clock, writes, self.last)?;
-        if self.write(timestamp, writes) {
-            Ok(timestamp)
-        } else {
-            Err(Fault::unnamed(Refusal::CapacityExceeded, Layer::Store))
-        }
+        self.write(timestamp, writes)?;
+        Ok(timestamp)
     }
 
     fn prune(&mut self, horizon: u64)

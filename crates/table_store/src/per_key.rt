@@ -23,11 +23,7 @@ impl PerKey {
     pub(crate) fn get(&self, key: u8) -> usize
         ensures { result ≡ number_for self.now key }
     {
-        if is_key(key) {
-            self.numbers[key as usize]
-        } else {
-            0
-        }
+        self.numbers.get(usize::from(key)).copied().unwrap_or(0)
     }
 
     // Gives the key this number; where there is no such key, nothing changes.
@@ -35,7 +31,7 @@ impl PerKey {
         ensures { (k : ℕ) → number_for self.new k ≡ with (number_for self.old) key number k }
     {
         if is_key(key) {
-            self.numbers[key as usize] = number;
+            self.numbers[usize::from(key)] = number;
         }
     }
 
@@ -44,10 +40,10 @@ impl PerKey {
         ensures answer { result ≡ nat_lt 0 (number_for self.old key) }
         ensures after { (k : ℕ) → number_for self.new k ≡ one_less (number_for self.old) key k }
     {
-        let number = self.get(key);
-        if number > 0 {
-            self.set(key, number - 1);
-        }
-        number > 0
+        let Some(left) = self.get(key).checked_sub(1) else {
+            return false;
+        };
+        self.set(key, left);
+        true
     }
 }

@@ -1,7 +1,8 @@
 // A record of one version, and lists of records by what can be done to them.
-ghost use Rattle.std.specs.Prelude.{◌≡◌, ℕ, Bool, true, List, length, take, slice_index_or, slice_set};
-ghost use Rattle.table_store.specs.Records.{no_record, with_one_more};
-ghost use Rattle.table_store.specs.declared.record.Record.{Record};
+ghost use Rattle.std.specs.Prelude.{◌≡◌};
+ghost use Rattle.std.specs.Fn.{CalledAt};
+ghost use Rattle.std.specs.List.Retain.{IsFiltered};
+ghost use Rattle.table_store.specs.Records.{Listing, with_one_more};
 
 // One version of one key.
 #[derive(Clone, Copy, PartialEq, Eq, Debug)]
@@ -18,44 +19,24 @@ pub const NO_RECORD: Record = Record {
     value: 0,
 };
 
-// A list of records that can be read by place, from 0.
-pub(crate) trait Records {
-    ghost records: { Self → List Record };
+// A list of records, oldest first, in memory of a fixed size.
+pub(crate) trait RecordList {
+    // the records, and how many there is room for
+    ghost listing: { Self → Listing };
 
-    fn count(&self) -> usize
-        ensures { result ≡ length (records self.now) };
-
-    // The record at this place; past the last, zeros.
-    fn at(&self, place: usize) -> Record
-        ensures { result ≡ slice_index_or (records self.now) place no_record };
-}
-
-// A list of records in memory of a fixed size, which can be changed.
-pub(crate) trait RecordList: Records {
-    // how many records the memory has room for
-    ghost places: { Self → ℕ };
-
-    // is the memory after the last record all zeros?
-    ghost tidy: { Self → Bool };
+    fn records(&self) -> &[Record]
+        ensures { result.now ≡ (listing self.now).records };
 
     fn room(&self) -> usize
-        ensures { result ≡ places self.now };
+        ensures { result ≡ (listing self.now).room };
 
-    // Puts a record in the place of another; past the last, nothing changes.
-    fn put(&mut self, place: usize, new: Record)
-        ensures after { Self.Records.records self.new ≡ slice_set (Self.Records.records self.old) place new }
-        ensures places { places self.new ≡ places self.old }
-        ensures tidy { tidy self.old ≡ true → tidy self.new ≡ true };
-
-    // Keeps the first records only, as many as are named.
-    fn truncate(&mut self, count: usize)
-        ensures after { Self.Records.records self.new ≡ take count (Self.Records.records self.old) }
-        ensures places { places self.new ≡ places self.old }
-        ensures tidy { tidy self.old ≡ true → tidy self.new ≡ true };
+    // Drops the records that are not to be kept. Each one that stays moves at most once.
+    fn retain<F: FnMut(&Record) -> bool>(&mut self, keep: F)
+        requires { F.IsAlwaysCallable keep }
+        ensures kept { IsFiltered (CalledAt F.FnMut) keep (listing self.old).records (listing self.new).records }
+        ensures room { (listing self.new).room ≡ (listing self.old).room };
 
     // Adds a record after the last; where there is no room, nothing changes.
     fn push(&mut self, new: Record)
-        ensures after { Self.Records.records self.new ≡ with_one_more (places self.old) (Self.Records.records self.old) new }
-        ensures places { places self.new ≡ places self.old }
-        ensures tidy { tidy self.old ≡ true → tidy self.new ≡ true };
+        ensures { listing self.new ≡ with_one_more (listing self.old) new };
 }

@@ -1,5 +1,4 @@
-// A table: records in memory that a caller lends, and the last timestamp. Its records are always sound and in order, and
-// zeros follow them.
+// A table: records in memory that a caller lends, and the last timestamp. Its records are always sound and in order.
 ghost use Rattle.std.specs.Prelude.{◌≡◌, true};
 ghost use Rattle.table_store.specs.Tables.{sound_table};
 

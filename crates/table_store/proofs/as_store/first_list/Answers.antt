@@ -1,15 +1,24 @@
 -- Fit memory lists the records of a new store; unfit memory is as it was.
-use Rattle.std.proofs.Common.{arith}
-use Rattle.table_store.proofs.Tabling.{fit_from_room, new_in_fit, new_in_unfit, unfit_from_room}
+use Rattle.std.proofs.Common.{sym, ap, ◌∙◌}
+use Rattle.std.proofs.lemmas.Bool.{both_ways}
+use Rattle.table_store.proofs.Tabling.{new_shown, new_size, shown_unfit}
+use Rattle.table_store.specs.Tables.{is_table_size}
 use Rattle.table_store.proofs.as_store.first_list.Goals as goal
 
-pub returns-then-room-gt0 : goal.returns-then-room-gt0
-returns-then-room-gt0 c =
-    let mem = c.args.memory.now in
-    let ensures = c.start.ensures in
-    new_in_fit mem c.start.new.log.memory.now c.start.new.log.kept (fit_from_room mem (omega (arith, c.room.ensures, c.if-room-gt0.true))) ensures.places ensures.after ensures.tidy
+pub returns-then-is_fit : goal.returns-then-is_fit
+returns-then-is_fit c =
+    let empty = c.new-list.ensures in
+    let fit = sym c.if-is_fit.ensures in
+    record {
+      shown = new_shown c.new-list.result c.start.new.log empty.empty fit c.start.ensures;
+      size = new_size c.new-list.result c.start.new.log empty.empty fit c.start.ensures ∙ empty.size;
+      alone = λ unfit. absurd (both_ways _ unfit (ap (λ n. is_table_size n) (sym empty.size) ∙ fit));
+    }
 
-pub returns-else-room-gt0 : goal.returns-else-room-gt0
-returns-else-room-gt0 c =
-    let mem = c.args.memory.now in
-    new_in_unfit mem _ (unfit_from_room mem (omega (arith, c.room.ensures, c.if-room-gt0.false)))
+pub returns-else-is_fit : goal.returns-else-is_fit
+returns-else-is_fit c =
+    record {
+      shown = shown_unfit c.new-list.result.memory.now c.new-list.result.kept (sym c.if-is_fit.ensures);
+      size = c.new-list.ensures.size;
+      alone = c.new-list.ensures.alone;
+    }

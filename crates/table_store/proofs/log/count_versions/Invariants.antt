@@ -3,5 +3,5 @@ use Rattle.std.proofs.Common.{take}
 use Rattle.table_store.proofs.Counting.{Numbers, counted}
 use Rattle.table_store.proofs.log.count_versions.Given as goal
 
-abbrev pub invariant-loop-place : goal.invariant-loop-place
-invariant-loop-place g l = Numbers l.counts (counted (take l.place (g.L.Records.records l.log)))
+abbrev pub invariant-loop-record : goal.invariant-loop-record
+invariant-loop-record l = Numbers l.counts (counted (take l.record-index l.records))

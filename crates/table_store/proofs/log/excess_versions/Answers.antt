@@ -9,11 +9,11 @@ use Rattle.table_store.specs.Records.{excess, of_key}
 use Rattle.table_store.proofs.log.excess_versions.Goals as goal
 
 pub loop-write-init : goal.loop-write-init
-loop-write-init g c = none_yet _ c.none-excess.ensures _ (λ k. refl)
+loop-write-init c = none_yet _ c.none-excess.ensures _ (λ k. refl)
 
 pub loop-write-preserved : goal.loop-write-preserved
-loop-write-preserved g c =
-    let rs = g.L.Records.records c.args.log.now in
+loop-write-preserved c =
+    let rs = c.args.records.now in
     let ws = c.args.writes.now in
     let i = c.loop-write.write-index in
     excess_more c.args.depth rs ws i c.loop-write-test.true _ _ _ _ c.loop-write.invariant c.count_versions-counts.ensures c.get-count.ensures
@@ -22,8 +22,8 @@ loop-write-preserved g c =
     (c.saturating_sub.ensures ∙ ap (λ m. c.get-count.result - m) c.saturating_sub-others.ensures))
 
 pub returns : goal.returns
-returns g c =
-    let rs = g.L.Records.records c.args.log.now in
+returns c =
+    let rs = c.args.records.now in
     let ws = c.args.writes.now in
     same_numbers _ _ (excess_for c.args.depth ws rs) c.loop-write.invariant
     (λ k. ap (λ xs. excess c.args.depth (written_to k xs) (of_key k rs)) (sym (take_all c.loop-write.write-index ws c.loop-write-test.false)))

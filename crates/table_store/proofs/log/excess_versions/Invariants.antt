@@ -4,4 +4,4 @@ use Rattle.table_store.proofs.Counting.{Numbers, excess_for}
 use Rattle.table_store.proofs.log.excess_versions.Given as goal
 
 abbrev pub invariant-loop-write : goal.invariant-loop-write
-invariant-loop-write g l = Numbers l.excess (excess_for l.depth (take l.write-index l.writes) (g.L.Records.records l.log))
+invariant-loop-write l = Numbers l.excess (excess_for l.depth (take l.write-index l.writes) l.records)

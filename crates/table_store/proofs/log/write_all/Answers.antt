@@ -1,41 +1,26 @@
--- There is room exactly where the list after the commit fits, and then the records stand behind those that are left.
-use Rattle.std.proofs.Common.{◌+◌, ◌≤◌, leb, ◌++◌, map, length, sym, refl, ap, ◌∙◌, arith}
-use Rattle.std.proofs.lemmas.Bool.{false≢true, true≢false, leb-true}
-use Rattle.table_store.proofs.Adding.{room_for_all, room_needed, after_parts}
-use Rattle.table_store.specs.Records.{with_written, written}
+-- The writes' records stand behind those that are left.
+use Rattle.std.proofs.Common.{◌+◌, ◌≤◌, map, length, sym, ap, ◌∙◌, arith}
+use Rattle.std.proofs.lemmas.Bool.{leb-true}
+use Rattle.std.proofs.lemmas.List.{length-map}
+use Rattle.store.specs.Meaning.{written_to}
+use Rattle.table_store.proofs.Adding.{after_parts, room_for_all}
+use Rattle.table_store.specs.PerKeys.{number_for, per_key}
+use Rattle.table_store.specs.Records.{drop_firsts, excess, of_key, with_all, with_records, written}
 use Rattle.table_store.proofs.log.write_all.Goals as goal
 
-pub returns-then-not-has_room : goal.returns-then-not-has_room
-returns-then-not-has_room g c =
-    let rs = g.L.Records.records c.args.log.now in
+pub returns-clause-after : goal.returns-clause-after
+returns-clause-after g c =
+    let l = g.L.RecordList.listing c.args.log.now in
+    let depth = c.args.depth in
     let ws = c.args.writes.now in
-    record {
-      answer = c.if-not-has_room.ensures ∙ room_needed c.args.depth c.args.timestamp ws rs _ c.excess_versions-excess.ensures c.room.result _ c.count_left-left.ensures ∙ ap (leb _) c.room.ensures;
-      after = λ e. absurd (false≢true e);
-      unchanged = λ _. refl;
-      places = refl;
-      tidy = λ t. t;
-    }
-
-pub returns : goal.returns
-returns g c =
-    let rs = g.L.Records.records c.args.log.now in
-    let ws = c.args.writes.now in
-    let t = c.args.timestamp in
-    let excess = c.excess_versions-excess.ensures in
-    let room = g.L.RecordList.places c.args.log.now in
-    let left = g.L.Records.records c.drop_oldest.new.log in
-    let fits : length left + length ws ≤ room =
-    omega (arith, ap length c.drop_oldest.ensures.after, c.count_left-left.ensures, c.room.ensures, leb-true _ _ (sym c.if-not-has_room.ensures)) in
-    record {
-      answer = c.if-not-has_room.ensures ∙ room_needed c.args.depth t ws rs _ excess c.room.result _ c.count_left-left.ensures ∙ ap (leb _) c.room.ensures;
-      after = λ _.
-          c.append.ensures.after
-          ∙ ap (λ n. with_written n t left ws) c.drop_oldest.ensures.places
-          ∙ room_for_all room t left ws fits
-          ∙ ap (λ xs. xs ++ map (written t) ws) c.drop_oldest.ensures.after
-          ∙ after_parts c.args.depth t ws rs _ excess;
-      unchanged = λ e. absurd (true≢false e);
-      places = c.append.ensures.places ∙ c.drop_oldest.ensures.places;
-      tidy = λ s. c.append.ensures.tidy (c.drop_oldest.ensures.tidy s);
-    }
+    let more = map (written c.args.timestamp) ws in
+    let e = number_for c.excess_versions-excess.result in
+    let left = drop_firsts e l.records in
+    let fits : length left + length more ≤ l.room =
+    omega (arith, c.count_left-left.ensures, ap (λ rs. length (drop_firsts e rs)) c.records-2.ensures, c.room.ensures, leb-true _ _ (sym c.has_room.ensures ∙ c.if-not-has_room.false), length-map ws (written c.args.timestamp)) in
+    c.append.ensures
+    ∙ ap (with_all more) c.drop_oldest.ensures
+    ∙ room_for_all more (with_records left l) fits
+    ∙ ap (λ rs. with_records rs l)
+    (after_parts depth c.args.timestamp ws l.records e
+    (λ k. c.excess_versions-excess.ensures k ∙ ap (λ rs. per_key (λ j. excess depth (written_to j ws) (of_key j rs)) k) c.records.ensures))

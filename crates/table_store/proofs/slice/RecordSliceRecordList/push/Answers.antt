@@ -1,27 +1,22 @@
 -- Where there is room the record stands behind the others; where there is none nothing changes.
-use Rattle.std.proofs.Common.{◌≡◌, ◌<◌, ◌≤◌, min, refl, ◌∙◌, arith}
-use Rattle.table_store.proofs.Memory.{listed_length, push_listed, push_room, push_zeros, push_full}
-use Rattle.table_store.specs.Tables.{room_in}
+use Rattle.std.proofs.Common.{arith}
+use Rattle.table_store.proofs.Memory.{push_full, push_listing, zeros_after_more}
 use Rattle.table_store.proofs.slice.RecordSliceRecordList.push.Goals as goal
+
+pub invariant_of-self : goal.invariant_of-self
+invariant_of-self c =
+    let s = c.args.self.now in
+    record {
+      within = omega (arith, c.room.ensures, c.if-end-room.true);
+      tidy = λ fit. zeros_after_more s.memory.now s.kept (s.tidy fit);
+    }
 
 pub returns-then-end-room : goal.returns-then-end-room
 returns-then-end-room c =
-    let mem = c.args.self.now.memory.now in
-    let kept = c.args.self.now.kept in
-    let n = c.count-end.result in
-    let end : n ≡ min kept (room_in mem) = c.count-end.ensures ∙ listed_length mem kept in
-    let lt : n < room_in mem = omega (arith, c.room.ensures, c.if-end-room.true) in
-    record {
-      after = push_listed mem kept n c.args.new end lt;
-      places = push_room mem kept n c.args.new end;
-      tidy = push_zeros mem kept n c.args.new end lt;
-    }
+    let s = c.args.self.now in
+    push_listing s.memory.now s.kept c.args.new (omega (arith, c.room.ensures, c.if-end-room.true))
 
 pub returns-else-end-room : goal.returns-else-end-room
 returns-else-end-room c =
-    let mem = c.args.self.now.memory.now in
-    let kept = c.args.self.now.kept in
-    let n = c.count-end.result in
-    let end : n ≡ min kept (room_in mem) = c.count-end.ensures ∙ listed_length mem kept in
-    let full : room_in mem ≤ n = omega (arith, c.room.ensures, c.if-end-room.false) in
-    record { after = push_full mem kept n c.args.new end full; places = refl; tidy = λ t. t }
+    let s = c.args.self.now in
+    push_full s.memory.now s.kept c.args.new s.within (omega (arith, c.room.ensures, c.if-end-room.false))

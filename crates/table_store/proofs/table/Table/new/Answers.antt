@@ -1,0 +1,18 @@
+-- A table that shows the records of a new store means one.
+use Rattle.table_store.proofs.Tabling.{held, new_meaning, new_sound}
+use Rattle.table_store.proofs.table.Table.new.Goals as goal
+
+pub invariant_of-result : goal.invariant_of-result
+invariant_of-result c =
+    let list = c.first_list-list.result in
+    record { sound = new_sound list.memory.now list.kept c.first_list-list.ensures.shown }
+
+pub returns : goal.returns
+returns c =
+    let list = c.first_list-list.result in
+    let ensures = c.first_list-list.ensures in
+    record {
+      meaning = new_meaning list.memory.now list.kept ensures.shown _ ensures.size;
+      laid = held list 0 (new_sound list.memory.now list.kept ensures.shown);
+      alone = ensures.alone;
+    }
