@@ -11,6 +11,9 @@ use Rattle.store.specs.Meaning.{fit_writes, written_to}
 pub fit_rises : (ws : List Write) → fit_writes ws ≡ true → rising_from 0 ws ≡ true
 fit_rises ws e = (and_parts (nat_le 1 (length ws) && nat_le (length ws) write_keys) (rising_from 0 ws) e).1
 
+pub fit_some : (ws : List Write) → fit_writes ws ≡ true → 1 ≤ length ws
+fit_some ws e = grind (arith, nat_tests)
+
 pub rising_later : (least : ℕ) (w : Write) (ws : List Write) → rising_from least (w ∷ ws) ≡ true → rising_from (suc w.key) ws ≡ true
 rising_later least w ws e = (and_parts (leb least w.key && is_key w.key) (rising_from (suc w.key) ws) e).1
 

@@ -10,7 +10,8 @@ use Rattle.snapshot.specs.Limits.{keys, is_key}
 use Rattle.snapshot.specs.declared.account.Write.{Write}
 use Rattle.snapshot.specs.declared.fault.Fault.{Fault}
 use Rattle.snapshot.specs.declared.fault.Refusal.TheVariants.{CapacityExceeded}
-use Rattle.store.specs.Meaning.{Meaning, version_of, new_store, newest_at, pruned_at, reading_of, store_fault, written_to, kept_with, with_writes, versions_below, versions_kept, outdated}
+use Rattle.store.proofs.Writes.{fit_rises, fit_some}
+use Rattle.store.specs.Meaning.{Meaning, fit_writes, version_of, new_store, newest_at, pruned_at, reading_of, store_fault, written_to, kept_with, with_writes, versions_below, versions_kept, outdated}
 use Rattle.store.specs.declared.version.Version.{Version}
 use Rattle.table_store.proofs.Adding.{after_length, room_for_all}
 use Rattle.table_store.proofs.Layouts.{all_from, all_left, order_left, commit_sound, commit_order, of_key_commit, of_key_prune, versions_together, first_sound, first_order, first_length, first_kept}
@@ -19,7 +20,7 @@ use Rattle.table_store.proofs.Uniqueness.{one_layout}
 use Rattle.table_store.specs.PerKeys.{per_key}
 use Rattle.table_store.specs.Records.{Listing, after_writes, drop_firsts, excess, first_records, if_fits, no_record, of_key, with_all, with_records, without_outdated}
 use Rattle.table_store.specs.Stores.{meaning_of}
-use Rattle.table_store.specs.Tables.{HeldIn, LaidOut, Takes, capacity_of, in_order, is_table_size, is_zero, listing_in, room_in, shown_in, sound_record, sound_table, table_meaning}
+use Rattle.table_store.specs.Tables.{HeldIn, LaidOut, capacity_of, in_order, is_table_size, is_zero, listing_in, room_in, shown_in, sound_record, sound_table, table_meaning}
 use Rattle.table_store.specs.declared.record.Record.{Record}
 use Rattle.table_store.specs.declared.slice.RecordSlice.{RecordSlice}
 use Rattle.table_store.specs.declared.table.Table.{Table}
@@ -148,7 +149,7 @@ first_excess ws k =
     omega (arith, ap length (first_kept k), cond_both (is_key k) (version_of 0 0 ∷ []) [] (λ vs. length vs ≤ 1) (λ _. omega arith) (λ _. omega arith)) in
     cond_both (is_key k) _ 0 (λ x. x ≡ 0) (λ _. no_excess (written_to k ws) (of_key k (first_records keys)) one) (λ _. refl)
 
-module _ (b : Table) (t : ℕ) (ws : List Write) (takes : Takes b.last t ws) where
+module _ (b : Table) (t : ℕ) (ws : List Write) (fit_ws : fit_writes ws ≡ true) (later : b.last < t) where
   abbrev mem : List Record
   mem = b.list.memory.now
 
@@ -165,13 +166,13 @@ module _ (b : Table) (t : ℕ) (ws : List Write) (takes : Takes b.last t ws) whe
   sound_now = sound_parts mem b.list.kept b.last b.sound
 
   sound_after : all (sound_record t) (after_writes 16 t ws rs) ≡ true
-  sound_after = commit_sound 16 b.last t ws rs takes.later takes.rising sound_now.records
+  sound_after = commit_sound 16 b.last t ws rs later (fit_rises ws fit_ws) sound_now.records
 
   order_after : in_order (after_writes 16 t ws rs) ≡ true
-  order_after = commit_order 16 b.last t ws rs takes.later takes.rising sound_now.records sound_now.order
+  order_after = commit_order 16 b.last t ws rs later (fit_rises ws fit_ws) sound_now.records sound_now.order
 
   kept_after : (k : ℕ) → of_key k (after_writes 16 t ws rs) ≡ kept_with 16 t (written_to k ws) (m.kept k)
-  kept_after k = of_key_commit 16 t ws rs (omega arith) takes.rising k
+  kept_after k = of_key_commit 16 t ws rs (omega arith) (fit_rises ws fit_ws) k
 
   -- as many versions as records
   versions_after : versions_kept (with_writes 16 t ws m) ≡ length (after_writes 16 t ws rs)
@@ -192,7 +193,7 @@ module _ (b : Table) (t : ℕ) (ws : List Write) (takes : Takes b.last t ws) whe
   unfit_agrees : is_table_size (length mem) ≡ false → fits ≡ nat_le (versions_kept (with_writes 16 t ws m)) m.capacity
   unfit_agrees unfit =
       let none = unfit_room mem unfit in
-      let some = takes.some in
+      let some = (fit_some ws fit_ws) in
       let shown = shown_unfit mem b.list.kept unfit in
       let first = first_records keys in
       let e = per_key (λ k. excess 16 (written_to k ws) (of_key k first)) in
@@ -214,7 +215,7 @@ module _ (b : Table) (t : ℕ) (ws : List Write) (takes : Takes b.last t ws) whe
   fit_where_room : Ok tt ≡ if_fits (length (after_writes 16 t ws listed)) (room_in mem) → is_table_size (length mem) ≡ true
   fit_where_room ok =
       let long = after_length 16 t ws listed _ (λ k. refl) in
-      let some = takes.some in
+      let some = (fit_some ws fit_ws) in
       let enough : length (after_writes 16 t ws listed) ≤ room_in mem = leb-true _ _ (ok_fits fits ok) in
       ⊎_elim
       (λ fit. fit)

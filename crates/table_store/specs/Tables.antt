@@ -85,9 +85,3 @@ OnlyLayout m mem = (other : List Record) → length other ≡ length mem → Lai
 abbrev pub HeldIn : List Record → ℕ → ℕ → Type 0
 HeldIn mem n last =
     is_table_size (length mem) ≡ true → LaidOut (table_meaning mem n last) mem × OnlyLayout (table_meaning mem n last) mem
-
--- writes that a table can take at a timestamp: some, with rising keys, and later than last
-pub record Takes (last t : ℕ) (ws : List Write) : Type 0 where
-  pub some : 1 ≤ length ws
-  pub rising : rising_from 0 ws ≡ true
-  pub later : last < t

@@ -1,11 +1,11 @@
 // The table store: up to 16 versions of a key, in memory of 64 to 1,024 records that a caller lends.
-ghost use Rattle.std.specs.Prelude.{◌≡◌, true, false, length, OnErr, OnOk};
+ghost use Rattle.std.specs.Prelude.{◌≡◌, ◌<◌, true, false, length, OnErr, OnOk};
 ghost use Rattle.std.proofs.Common.{lit≤};
 ghost use Rattle.store.specs.Meaning.{new_store, newest_at, commit_answer, after_commit, after_prune, pruned_at, versions_kept, with_writes};
 ghost use Rattle.snapshot.specs.Limits.{is_key, keys};
 ghost use Rattle.table_store.specs.Records.{first_records, if_fits};
 ghost use Rattle.table_store.specs.Stores.{HoldsVersions, LeavesUnfit, meaning_of};
-ghost use Rattle.table_store.specs.Tables.{Takes, capacity_of, is_table_size, memory_check, shown_in, table_depth};
+ghost use Rattle.table_store.specs.Tables.{capacity_of, is_table_size, memory_check, shown_in, table_depth};
 
 use crate::log::{drop_outdated, newest_at, start, write_all};
 use crate::record::{Record, RecordList};
@@ -15,6 +15,7 @@ use snapshot::account::{Reading, Write};
 use snapshot::fault::{Fault, Layer, Refusal};
 use store::checks::{check_commit, check_question};
 use store::traits::{Reads, Store};
+use store::update::Update;
 
 impl<'a> Table<'a> {
     // Refuses memory of fewer than 64 or more than 1,024 records.
@@ -60,17 +61,17 @@ impl<'a> Table<'a> {
         }
     }
 
-    // Commits the writes at this timestamp; refused, with nothing changed, where there is no room for them.
-    fn write(&mut self, timestamp: u64, writes: &[Write]) -> Result<(), Fault>
-        requires { Takes self.old.last timestamp writes.now }
-        ensures answer { result ≡ if_fits (versions_kept (with_writes table_depth timestamp writes.now (meaning_of self.old))) (meaning_of self.old).capacity }
-        ensures after { OnOk result (meaning_of self.new ≡ with_writes table_depth timestamp writes.now (meaning_of self.old)) }
+    // Commits the update; refused, with nothing changed, where there is no room for it.
+    fn write(&mut self, update: Update) -> Result<(), Fault>
+        requires { self.old.last < update.timestamp }
+        ensures answer { result ≡ if_fits (versions_kept (with_writes table_depth update.entry.timestamp update.entry.writes.now (meaning_of self.old))) (meaning_of self.old).capacity }
+        ensures after { OnOk result (meaning_of self.new ≡ with_writes table_depth update.entry.timestamp update.entry.writes.now (meaning_of self.old)) }
         ensures unchanged { OnErr result (self.new ≡ self.old) }
         ensures laid { OnOk result (HoldsVersions self.new) }
         ensures alone { LeavesUnfit self.old self.new }
     {
-        write_all(&mut self.list, timestamp, writes, Self::DEPTH)?;
-        self.last = timestamp;
+        write_all(&mut self.list, update, Self::DEPTH)?;
+        self.last = update.timestamp;
         Ok(())
     }
 
@@ -134,9 +135,9 @@ impl Store for Table<'_> {
         ensures laid { OnOk result (HoldsVersions self.new) }
         ensures alone { LeavesUnfit self.old self.new }
     {
-        let timestamp = check_commit(clock, writes, self.last)?;
-        self.write(timestamp, writes)?;
-        Ok(timestamp)
+        let update = check_commit(clock, writes, self.last)?;
+        self.write(update)?;
+        Ok(update.timestamp)
     }
 
     fn prune(&mut self, horizon: u64)

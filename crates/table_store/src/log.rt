@@ -10,6 +10,7 @@ use crate::record::{Record, RecordList};
 use snapshot::account::{Reading, Write};
 use snapshot::fault::{Fault, Layer, Refusal};
 use snapshot::limits::KEYS;
+use store::update::Update;
 
 // The newest version of the key that is not later than the time, looked for from the newest end.
 pub(crate) fn newest_at(records: &[Record], key: u8, time: u64, last: u64) -> Option<Reading>
@@ -100,14 +101,14 @@ fn drop_oldest<L: RecordList>(log: &mut L, mut to_drop: PerKey)
     log.retain(|record| !to_drop.take_one(record.key));
 }
 
-// Adds a record for each write, as far as there is room.
-fn append<L: RecordList>(log: &mut L, timestamp: u64, writes: &[Write])
-    ensures { L.listing log.new ≡ with_all (map (written timestamp) writes.now) (L.listing log.old) }
+// Adds a record for each write of the update, as far as there is room.
+fn append<L: RecordList>(log: &mut L, update: Update)
+    ensures { L.listing log.new ≡ with_all (map (written update.entry.timestamp) update.entry.writes.now) (L.listing log.old) }
 {
-    for write in writes {
+    for write in update.writes {
         log.push(Record {
             key: write.key,
-            timestamp,
+            timestamp: update.timestamp,
             value: write.value,
         });
     }
@@ -133,24 +134,23 @@ fn has_room(room: usize, left: usize, more: usize) -> bool
     left <= room && more <= room - left
 }
 
-// Commits the writes at a timestamp; where there is no room for them it is refused, and nothing changes.
+// Commits the update; where there is no room for it it is refused, and nothing changes.
 pub(crate) fn write_all<L: RecordList>(
     log: &mut L,
-    timestamp: u64,
-    writes: &[Write],
+    update: Update,
     depth: usize,
 ) -> Result<(), Fault>
-    ensures answer { result ≡ if_fits (length (after_writes depth timestamp writes.now (L.listing log.old).records)) (L.listing log.old).room }
-    ensures after { OnOk result (L.listing log.new ≡ with_records (after_writes depth timestamp writes.now (L.listing log.old).records) (L.listing log.old)) }
+    ensures answer { result ≡ if_fits (length (after_writes depth update.entry.timestamp update.entry.writes.now (L.listing log.old).records)) (L.listing log.old).room }
+    ensures after { OnOk result (L.listing log.new ≡ with_records (after_writes depth update.entry.timestamp update.entry.writes.now (L.listing log.old).records) (L.listing log.old)) }
     ensures unchanged { OnErr result (log.new ≡ log.old) }
 {
-    let excess = excess_versions(log.records(), writes, depth);
+    let excess = excess_versions(log.records(), update.writes, depth);
     let left = count_left(log.records(), excess);
-    if !has_room(log.room(), left, writes.len()) {
+    if !has_room(log.room(), left, update.writes.len()) {
         return Err(Fault::unnamed(Refusal::CapacityExceeded, Layer::Store));
     }
     drop_oldest(log, excess);
-    append(log, timestamp, writes);
+    append(log, update);
     Ok(())
 }
 

@@ -8,8 +8,8 @@ use Rattle.table_store.proofs.log.append.Goals as goal
 
 pub loop-write-preserved : goal.loop-write-preserved
 loop-write-preserved g c =
-    let t = c.args.timestamp in
-    let ws = c.args.writes.now in
+    let t = c.args.update.timestamp in
+    let ws = c.args.update.writes.now in
     let i = c.loop-write.write-index in
     c.push.ensures
     ∙ ap (λ l. with_one_more l (written t (get_or ws i zero_write))) c.loop-write.invariant
@@ -18,4 +18,4 @@ loop-write-preserved g c =
 pub returns : goal.returns
 returns g c =
     c.loop-write.invariant
-    ∙ ap (λ ws. with_all (map (written c.args.timestamp) ws) (g.L.RecordList.listing c.args.log.now)) (take_all c.loop-write.write-index c.args.writes.now c.loop-write-test.false)
+    ∙ ap (λ ws. with_all (map (written c.args.update.timestamp) ws) (g.L.RecordList.listing c.args.log.now)) (take_all c.loop-write.write-index c.args.update.writes.now c.loop-write-test.false)

@@ -5,4 +5,4 @@ use Rattle.table_store.proofs.log.append.Given as goal
 
 abbrev pub invariant-loop-write : goal.invariant-loop-write
 invariant-loop-write g l =
-    g.L.RecordList.listing l.log ≡ with_all (map (written l.timestamp) (take l.write-index l.writes)) (g.L.RecordList.listing l.initial.log)
+    g.L.RecordList.listing l.log ≡ with_all (map (written l.update.timestamp) (take l.write-index l.update.writes.now)) (g.L.RecordList.listing l.initial.log)

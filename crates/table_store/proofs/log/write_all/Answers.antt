@@ -12,15 +12,15 @@ pub returns-clause-after : goal.returns-clause-after
 returns-clause-after g c =
     let l = g.L.RecordList.listing c.args.log.now in
     let depth = c.args.depth in
-    let ws = c.args.writes.now in
-    let more = map (written c.args.timestamp) ws in
+    let ws = c.args.update.writes.now in
+    let more = map (written c.args.update.timestamp) ws in
     let e = number_for c.excess_versions-excess.result in
     let left = drop_firsts e l.records in
     let fits : length left + length more ≤ l.room =
-    omega (arith, c.count_left-left.ensures, ap (λ rs. length (drop_firsts e rs)) c.records-2.ensures, c.room.ensures, leb-true _ _ (sym c.has_room.ensures ∙ c.if-not-has_room.false), length-map ws (written c.args.timestamp)) in
+    omega (arith, c.count_left-left.ensures, ap (λ rs. length (drop_firsts e rs)) c.records-2.ensures, c.room.ensures, leb-true _ _ (sym c.has_room.ensures ∙ c.if-not-has_room.false), length-map ws (written c.args.update.timestamp)) in
     c.append.ensures
     ∙ ap (with_all more) c.drop_oldest.ensures
     ∙ room_for_all more (with_records left l) fits
     ∙ ap (λ rs. with_records rs l)
-    (after_parts depth c.args.timestamp ws l.records e
+    (after_parts depth c.args.update.timestamp ws l.records e
     (λ k. c.excess_versions-excess.ensures k ∙ ap (λ rs. per_key (λ j. excess depth (written_to j ws) (of_key j rs)) k) c.records.ensures))

@@ -7,7 +7,7 @@ use Rattle.table_store.proofs.table.Table.write.Goals as goal
 pub returns-in_err-write_all-clause-answer : goal.returns-in_err-write_all-clause-answer
 returns-in_err-write_all-clause-answer c =
     let is : c.from_residual.result ≡ Err c.in_err-write_all.field-0.0 = search rules in
-    is ∙ c.in_err-write_all.ensures.answer ∙ commit_room c.args.self.now c.args.timestamp c.args.writes.now c.requires
+    is ∙ c.in_err-write_all.ensures.answer ∙ commit_room c.args.self.now c.args.update.timestamp c.args.update.writes.now c.args.update.fit c.requires
 
 pub returns-in_err-write_all-clause-unchanged : goal.returns-in_err-write_all-clause-unchanged
 returns-in_err-write_all-clause-unchanged c =
@@ -19,19 +19,19 @@ returns-in_err-write_all-clause-alone c = λ _. ap (λ l. l.memory.now) c.in_err
 pub invariant_of-self-2 : goal.invariant_of-self-2
 invariant_of-self-2 c =
     let ok = c.in_ok-write_all.ensures in
-    record { sound = (table_write c.args.self.now c.args.timestamp c.args.writes.now c.requires ok.answer c.write_all.new.log ok.after).sound }
+    record { sound = (table_write c.args.self.now c.args.update.timestamp c.args.update.writes.now c.args.update.fit c.requires ok.answer c.write_all.new.log ok.after).sound }
 
 pub returns : goal.returns
 returns c =
     let b = c.args.self.now in
-    let t = c.args.timestamp in
-    let ws = c.args.writes.now in
+    let t = c.args.update.timestamp in
+    let ws = c.args.update.writes.now in
     let ok = c.in_ok-write_all.ensures in
-    let changed = table_write b t ws c.requires ok.answer c.write_all.new.log ok.after in
+    let changed = table_write b t ws c.args.update.fit c.requires ok.answer c.write_all.new.log ok.after in
     record {
-      answer = ok.answer ∙ commit_room b t ws c.requires;
+      answer = ok.answer ∙ commit_room b t ws c.args.update.fit c.requires;
       after = changed.meaning;
       unchanged = tt;
       laid = held c.write_all.new.log t changed.sound;
-      alone = λ unfit. absurd (write_alone b t ws c.requires ok.answer unfit);
+      alone = λ unfit. absurd (write_alone b t ws c.args.update.fit c.requires ok.answer unfit);
     }
