@@ -14,11 +14,3 @@ returns-then-is_fit c =
       size = new_size c.new-list.result c.start.new.log empty.empty fit c.start.ensures ∙ empty.size;
       alone = λ unfit. absurd (both_ways _ unfit (ap (λ n. is_table_size n) (sym empty.size) ∙ fit));
     }
-
-pub returns-else-is_fit : goal.returns-else-is_fit
-returns-else-is_fit c =
-    record {
-      shown = shown_unfit c.new-list.result.memory.now c.new-list.result.kept (sym c.if-is_fit.ensures);
-      size = c.new-list.ensures.size;
-      alone = c.new-list.ensures.alone;
-    }

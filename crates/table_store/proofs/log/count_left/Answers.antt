@@ -20,7 +20,3 @@ loop-record-preserved c =
           let step = counted_goes rs before after i c.loop-record-test.true c.take_one.ensures.after (sym answer ∙ w.if-not-take_one.false) in
           (omega (arith, c.loop-record.invariant.0, step, w.left-is), omega (arith, c.loop-record.invariant.1, w.left-is))
     ]
-
-pub returns : goal.returns
-returns c =
-    omega (arith, c.loop-record.invariant.0, counted_all c.args.records.now (number_for c.loop-record.to_drop) c.loop-record.record-index c.loop-record-test.false)

@@ -18,11 +18,3 @@ loop-record-preserved-then-record-key c = (
       ∙ sym (looked_later c.args.key c.args.time c.loop-record.promise _ c.in-Some.record.now _ c.in-Some.ensures.steps c.if-record-key.true c.if-record-time.false)
       ∙ c.loop-record.invariant.2,
 )
-
-pub loop-record-preserved : goal.loop-record-preserved
-loop-record-preserved c = (
-  tt,
-  tt,
-  sym (looked_other c.args.key c.args.time c.loop-record.promise _ c.in-Some.record.now _ c.in-Some.ensures.steps c.if-record-key.false)
-      ∙ c.loop-record.invariant.2,
-)

@@ -11,8 +11,3 @@ pub loop-key-preserved : goal.loop-key-preserved
 loop-key-preserved g c =
     let k = c.loop-key.key in
     c.push.ensures ∙ ap (λ l. with_one_more l (record_of k 0 0)) c.loop-key.invariant ∙ sym (first_more k (g.L.RecordList.listing c.args.log.now))
-
-pub returns : goal.returns
-returns g c =
-    let all : c.loop-key.key ≡ 64 = omega (arith, c.loop-key-test.false, c.loop-key.auto.key-end) in
-    c.loop-key.invariant ∙ ap (λ n. with_all (first_records n) (g.L.RecordList.listing c.args.log.now)) all

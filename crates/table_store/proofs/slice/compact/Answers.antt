@@ -8,9 +8,6 @@ use Rattle.table_store.specs.declared.record.Record.{Record}
 use Rattle.table_store.proofs.slice.compact.Goals as goal
 use Rattle.table_store.proofs.slice.compact.Goals.{then-keep, else-keep}
 
-pub loop-place-init : goal.loop-place-init
-loop-place-init g c = (c.requires, none_moved _ c.args.keep c.args.records.now)
-
 pub loop-place-preserved : goal.loop-place-preserved
 loop-place-preserved g c =
     let R = CalledAt g.F.FnMut in
@@ -30,14 +27,3 @@ returns-clause-kept g c =
     let at = c.loop-place in
     all_kept (CalledAt g.F.FnMut) c.args.keep c.args.records.now at.keep at.records at.left at.place at.invariant.1 at.auto.records c.fill.new.self c.loop-place-test.false
     (omega (arith, at.invariant.1.within, at.auto.place-end))
-
-pub returns-clause-zeros : goal.returns-clause-zeros
-returns-clause-zeros g c =
-    let at = c.loop-place in
-    let rs = c.args.records.now in
-    let others : length (take (length at.records - at.left) (drop at.left at.records)) ≡ length rs - at.left =
-    omega (arith, length-take (length at.records - at.left) (drop at.left at.records), length-drop at.left at.records, at.auto.records) in
-    all_else (CalledAt g.F.FnMut) c.args.keep rs at.keep at.records at.left at.place at.invariant.1 at.auto.records c.fill.new.self c.loop-place-test.false
-    (omega (arith, at.invariant.1.within, at.auto.place-end))
-    ∙ c.fill.ensures.after (λ y e. e)
-    ∙ ap (λ n. replicate n no_record) others

@@ -15,14 +15,3 @@ invariant_of-self g c =
       within = retain_within s.memory.now xs s.kept c.compact-self.result long ensures.within s.within;
       tidy = retain_zeros s.memory.now xs s.kept c.compact-self.result long ensures.within s.within _ ensures.zeros s.tidy;
     }
-
-pub returns : goal.returns
-returns g c =
-    let s = c.args.self.now in
-    let xs = c.compact-self.new.records in
-    let ensures = c.compact-self.ensures in
-    let long = c.compact-self.auto.records in
-    record {
-      kept = subst (IsFiltered (CalledAt g.F.FnMut) c.args.keep _) (sym (retain_front s.memory.now xs s.kept c.compact-self.result long ensures.within s.within)) ensures.kept;
-      room = retain_room s.memory.now xs s.kept c.compact-self.result long ensures.within s.within;
-    }

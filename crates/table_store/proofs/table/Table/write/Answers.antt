@@ -13,9 +13,6 @@ pub returns-in_err-write_all-clause-unchanged : goal.returns-in_err-write_all-cl
 returns-in_err-write_all-clause-unchanged c =
     same_on_err c.from_residual.result _ c.args.self.now c.in_err-write_all.ensures.unchanged refl
 
-pub returns-in_err-write_all-clause-alone : goal.returns-in_err-write_all-clause-alone
-returns-in_err-write_all-clause-alone c = λ _. ap (λ l. l.memory.now) c.in_err-write_all.ensures.unchanged
-
 pub invariant_of-self-2 : goal.invariant_of-self-2
 invariant_of-self-2 c =
     let ok = c.in_ok-write_all.ensures in
