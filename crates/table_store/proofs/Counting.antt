@@ -56,9 +56,6 @@ zero_at false x e = refl
 pub same_numbers : (p : PerKey) (f f' : ℕ → ℕ) → Numbers p f → ((k : ℕ) → f' k ≡ f k) → Numbers p f'
 same_numbers p f f' old same k = old k ∙ ap (λ x. if is_key k then x else 0) (sym (same k))
 
-pub none_yet : (p : PerKey) → ((k : ℕ) → number_for p k ≡ 0) → (f : ℕ → ℕ) → ((k : ℕ) → f k ≡ 0) → Numbers p f
-none_yet p zero_each f none k = zero_each k ∙ sym (zero_at (is_key k) (f k) (none k))
-
 -- the number of versions of each key
 abbrev pub counted : List Record → ℕ → ℕ
 counted rs k = length (of_key k rs)

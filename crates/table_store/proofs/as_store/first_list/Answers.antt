@@ -1,7 +1,7 @@
 -- Fit memory lists the records of a new store; unfit memory is as it was.
 use Rattle.std.proofs.Common.{sym, ap, ◌∙◌}
 use Rattle.std.proofs.lemmas.Bool.{both_ways}
-use Rattle.table_store.proofs.Tabling.{new_shown, new_size, shown_unfit}
+use Rattle.table_store.proofs.Tabling.{new_shown, new_size}
 use Rattle.table_store.specs.Tables.{is_table_size}
 use Rattle.table_store.proofs.as_store.first_list.Goals as goal
 

@@ -1,6 +1,6 @@
 -- Each record goes, or is one more that stays.
 use Rattle.std.proofs.Common.{sym, ◌∙◌, arith}
-use Rattle.table_store.proofs.Dropping.{counted_goes, counted_stays, counted_all}
+use Rattle.table_store.proofs.Dropping.{counted_goes, counted_stays}
 use Rattle.table_store.specs.PerKeys.{number_for}
 use Rattle.table_store.proofs.log.count_left.Goals as goal
 use Rattle.table_store.proofs.log.count_left.Goals.{then-not-take_one, else-not-take_one}

@@ -1,8 +1,7 @@
 -- Each record raises its key's number by one.
-use Rattle.std.proofs.Common.{length, get_or, sym, refl, ap, arith}
-use Rattle.std.proofs.lemmas.List.{take_all}
-use Rattle.table_store.proofs.Counting.{counted, counted_le, count_more, none_yet, same_numbers}
-use Rattle.table_store.specs.Records.{no_record, of_key}
+use Rattle.std.proofs.Common.{get_or, arith}
+use Rattle.table_store.proofs.Counting.{counted_le}
+use Rattle.table_store.specs.Records.{no_record}
 use Rattle.table_store.proofs.log.count_versions.Goals as goal
 
 pub overflow_add-count : goal.overflow_add-count

@@ -1,11 +1,8 @@
 -- Each write sets its key's number.
-use Rattle.std.proofs.Common.{◌-◌, get_or, sym, refl, ap, ◌∙◌}
-use Rattle.std.proofs.lemmas.List.{take_all}
+use Rattle.std.proofs.Common.{◌-◌, get_or, ap, ◌∙◌}
 use Rattle.snapshot.specs.Accounts.{zero_write}
-use Rattle.store.specs.Meaning.{written_to}
-use Rattle.table_store.proofs.Counting.{excess_for, excess_more, none_yet, same_numbers}
+use Rattle.table_store.proofs.Counting.{excess_more}
 use Rattle.table_store.specs.PerKeys.{number_for, with}
-use Rattle.table_store.specs.Records.{excess, of_key}
 use Rattle.table_store.proofs.log.excess_versions.Goals as goal
 
 pub loop-write-preserved : goal.loop-write-preserved

@@ -2,7 +2,7 @@
 use Rattle.std.proofs.Common.{sym, ap, ◌∙◌}
 use Rattle.store.specs.Meaning.{newest_at}
 use Rattle.table_store.specs.Records.{of_key}
-use Rattle.table_store.proofs.Looks.{looked_found, looked_later, looked_other}
+use Rattle.table_store.proofs.Looks.{looked_found, looked_later}
 use Rattle.table_store.proofs.log.newest_at.Goals as goal
 
 pub returns-then-record-time : goal.returns-then-record-time

@@ -1,9 +1,7 @@
 -- A record that is not above the horizon outdates all versions of its key before it.
-use Rattle.std.proofs.Common.{◌+◌, get_or, take, sym, refl, ap, subst, arith}
-use Rattle.std.proofs.lemmas.List.{take_all}
-use Rattle.store.specs.Meaning.{outdated}
-use Rattle.table_store.proofs.Counting.{Numbers, counted_le, count_more, outdated_in, outdated_set, outdated_same, none_yet, same_numbers}
-use Rattle.table_store.specs.Records.{no_record, of_key}
+use Rattle.std.proofs.Common.{◌+◌, get_or, take, sym, subst, arith}
+use Rattle.table_store.proofs.Counting.{Numbers, counted_le, count_more, outdated_in, outdated_set, outdated_same}
+use Rattle.table_store.specs.Records.{no_record}
 use Rattle.table_store.specs.declared.per_key.PerKey.{PerKey}
 use Rattle.table_store.proofs.log.outdated_versions.Goals as goal
 use Rattle.table_store.proofs.log.outdated_versions.Goals.{then-record-horizon, else-record-horizon}

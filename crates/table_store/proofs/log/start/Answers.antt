@@ -1,7 +1,7 @@
 -- Each turn adds the first record of one key more.
-use Rattle.std.proofs.Common.{◌≡◌, sym, ap, ◌∙◌, arith}
+use Rattle.std.proofs.Common.{sym, ap, ◌∙◌}
 use Rattle.table_store.proofs.Adding.{first_none, first_more}
-use Rattle.table_store.specs.Records.{first_records, record_of, with_all, with_one_more}
+use Rattle.table_store.specs.Records.{record_of, with_one_more}
 use Rattle.table_store.proofs.log.start.Goals as goal
 
 pub loop-key-init : goal.loop-key-init

@@ -1,9 +1,8 @@
 -- Each record that stays moves to the front of the gap, and zeros stand where the others were.
-use Rattle.std.proofs.Common.{◌≡◌, ℕ, ◌+◌, ◌-◌, List, length, take, drop, replicate, ap, ◌∙◌, length-take, length-drop, arith, of_calls}
+use Rattle.std.proofs.Common.{◌≡◌, ℕ, ◌+◌, List, length, arith, of_calls}
 use Rattle.std.proofs.lemmas.Fn.{called_at}
 use Rattle.std.specs.Fn.{CalledAt}
-use Rattle.table_store.proofs.Compacting.{Moved, all_else, all_kept, none_moved, one_goes, one_stays}
-use Rattle.table_store.specs.Records.{no_record}
+use Rattle.table_store.proofs.Compacting.{Moved, all_kept, one_goes, one_stays}
 use Rattle.table_store.specs.declared.record.Record.{Record}
 use Rattle.table_store.proofs.slice.compact.Goals as goal
 use Rattle.table_store.proofs.slice.compact.Goals.{then-keep, else-keep}

@@ -1,6 +1,6 @@
 -- Where there is room the record stands behind the others; where there is none nothing changes.
 use Rattle.std.proofs.Common.{arith}
-use Rattle.table_store.proofs.Memory.{push_full, push_listing, zeros_after_more}
+use Rattle.table_store.proofs.Memory.{zeros_after_more}
 use Rattle.table_store.proofs.slice.RecordSliceRecordList.push.Goals as goal
 
 pub invariant_of-self : goal.invariant_of-self

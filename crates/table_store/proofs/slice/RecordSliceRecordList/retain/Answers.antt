@@ -1,8 +1,5 @@
 -- The kept records are at the front of the list's part of the memory, and zeros stand where the others were.
-use Rattle.std.proofs.Common.{sym, subst}
-use Rattle.std.specs.Fn.{CalledAt}
-use Rattle.std.specs.List.Retain.{IsFiltered}
-use Rattle.table_store.proofs.Memory.{retain_front, retain_room, retain_within, retain_zeros}
+use Rattle.table_store.proofs.Memory.{retain_within, retain_zeros}
 use Rattle.table_store.proofs.slice.RecordSliceRecordList.retain.Goals as goal
 
 pub invariant_of-self : goal.invariant_of-self

@@ -1,5 +1,5 @@
 -- Writes that were taken leave the list that the rules draw, in memory that is fit; without room the table is as it was.
-use Rattle.std.proofs.Common.{◌≡◌, Err, ap, ◌∙◌, refl, rules}
+use Rattle.std.proofs.Common.{◌≡◌, Err, ◌∙◌, refl, rules}
 use Rattle.table_store.proofs.Sameness.{same_on_err}
 use Rattle.table_store.proofs.Tabling.{commit_room, held, table_write, write_alone}
 use Rattle.table_store.proofs.table.Table.write.Goals as goal
