@@ -59,13 +59,9 @@ module _ {P : Type 0} (R : P → Record → Bool → P → Type 0) where
           }
 
     -- all were shown, and ys now stands in the place of what comes after those that stay
-    module _ (ys : List Record) (past : length rs ≤ place) (fits : left ≤ length rs) where
-      abbrev after : List Record
-      after = put_mid left (length xs - left) xs ys
-
-      pub all_kept : IsFiltered R p rs (take left after)
-      all_kept =
-          let none : IsFiltered R q (drop place rs) [] = subst (λ zs. IsFiltered R q zs []) (sym (drop_all place rs past)) ([], q, refl, refl, refl) in
-          let front : take left xs ++ [] ≡ take left after =
-          append-nil (take left xs) ∙ sym (take-put_mid_below left (length xs - left) xs ys left (omega arith) (omega (arith, long, fits))) in
-          subst (IsFiltered R p rs) front (m.whole [] none)
+    pub all_kept : (ys : List Record) → length rs ≤ place → left ≤ length rs → IsFiltered R p rs (take left (put_mid left (length xs - left) xs ys))
+    all_kept ys past fits =
+        let none : IsFiltered R q (drop place rs) [] = subst (λ zs. IsFiltered R q zs []) (sym (drop_all place rs past)) ([], q, refl, refl, refl) in
+        let front : take left xs ++ [] ≡ take left (put_mid left (length xs - left) xs ys) =
+        append-nil (take left xs) ∙ sym (take-put_mid_below left (length xs - left) xs ys left (omega arith) (omega (arith, long, fits))) in
+        subst (IsFiltered R p rs) front (m.whole [] none)

@@ -1,4 +1,4 @@
--- Looking for the newest version up to a time, from the newest end: what the last record decides.
+-- Looking for the newest version up to a time, from the newest end: what the last record decides where it is of the key.
 use Rattle.std.proofs.Common.{◌≡◌, ℕ, ◌-◌, ◌<◌, ◌≤◌, nat_le, List, [], ◌∷◌, ◌++◌, Some, ap, ◌∙◌}
 use Rattle.std.proofs.lemmas.Bool.{cond-true, cond-false, eq-eqb, le-leb, lt-leb}
 use Rattle.store.specs.Meaning.{reading_of, newest_at}

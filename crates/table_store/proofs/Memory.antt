@@ -1,4 +1,4 @@
--- The list in lent memory: its room, the zeros after it, and what one record more and a retain leave of both.
+-- The list in lent memory: its room, the zeros after it, and what a retain leaves of both.
 use Rattle.std.proofs.Common.{◌≡◌, ℕ, zero, suc, ◌+◌, ◌≤◌, true, false, if◌then◌else◌, List, [], ◌∷◌, ◌++◌, length, take, drop, replicate, sym, refl, ap, ◌∙◌, subst, arith}
 use Rattle.std.proofs.lemmas.List.Folds.{list_all-append}
 use Rattle.std.specs.List.{list_all}

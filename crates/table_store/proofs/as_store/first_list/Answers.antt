@@ -1,4 +1,4 @@
--- Fit memory lists the records of a new store; unfit memory is as it was.
+-- Fit memory lists the records of a new store.
 use Rattle.std.proofs.Common.{sym, ap, ◌∙◌}
 use Rattle.std.proofs.lemmas.Bool.{both_ways}
 use Rattle.table_store.proofs.Tabling.{new_shown, new_size}

@@ -1,4 +1,4 @@
--- Each record raises its key's number by one.
+-- No key has more versions than there are records so far.
 use Rattle.std.proofs.Common.{get_or, arith}
 use Rattle.table_store.proofs.Counting.{counted_le}
 use Rattle.table_store.specs.Records.{no_record}

@@ -1,9 +1,8 @@
--- Each record that stays moves to the front of the gap, and zeros stand where the others were.
-use Rattle.std.proofs.Common.{◌≡◌, ℕ, ◌+◌, List, length, arith, of_calls}
+-- Each record that stays moves to the front of the gap.
+use Rattle.std.proofs.Common.{◌≡◌, length, arith, of_calls}
 use Rattle.std.proofs.lemmas.Fn.{called_at}
 use Rattle.std.specs.Fn.{CalledAt}
-use Rattle.table_store.proofs.Compacting.{Moved, all_kept, one_goes, one_stays}
-use Rattle.table_store.specs.declared.record.Record.{Record}
+use Rattle.table_store.proofs.Compacting.{all_kept, one_goes, one_stays}
 use Rattle.table_store.proofs.slice.compact.Goals as goal
 use Rattle.table_store.proofs.slice.compact.Goals.{then-keep, else-keep}
 
@@ -12,7 +11,6 @@ loop-place-preserved g c =
     let R = CalledAt g.F.FnMut in
     let at = c.loop-place in
     let rs = c.args.records.now in
-    let Kept : List Record → ℕ → Type 0 = λ xs left. Moved R c.args.keep rs c.keep.new.self xs left (at.place + 1) in
     let long : length at.records ≡ length rs = at.auto.records in (
       search of_calls,
       elim c.if-keep.branch [
@@ -24,5 +22,4 @@ loop-place-preserved g c =
 pub returns-clause-kept : goal.returns-clause-kept
 returns-clause-kept g c =
     let at = c.loop-place in
-    all_kept (CalledAt g.F.FnMut) c.args.keep c.args.records.now at.keep at.records at.left at.place at.invariant.1 at.auto.records c.fill.new.self c.loop-place-test.false
-    (omega (arith, at.invariant.1.within, at.auto.place-end))
+    all_kept (CalledAt g.F.FnMut) c.args.keep c.args.records.now at.keep at.records at.left at.place at.invariant.1 at.auto.records c.fill.new.self c.loop-place-test.false (omega (arith, at.invariant.1.within, at.auto.place-end))

@@ -1,4 +1,4 @@
--- Fit memory is all zeros; unfit memory is as it was.
+-- Fit memory is all zeros.
 use Rattle.std.proofs.Common.{◌≡◌, length, sym, ap, ◌∙◌, arith, true, List, subst}
 use Rattle.std.specs.List.{list_all}
 use Rattle.std.proofs.lemmas.Bool.{both_ways}

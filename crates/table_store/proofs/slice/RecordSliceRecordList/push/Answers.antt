@@ -1,4 +1,4 @@
--- Where there is room the record stands behind the others; where there is none nothing changes.
+-- With one record more in the list the zeros after it begin one later.
 use Rattle.std.proofs.Common.{arith}
 use Rattle.table_store.proofs.Memory.{zeros_after_more}
 use Rattle.table_store.proofs.slice.RecordSliceRecordList.push.Goals as goal

@@ -1,4 +1,4 @@
--- The kept records are at the front of the list's part of the memory, and zeros stand where the others were.
+-- Zeros stand where the records were that did not stay.
 use Rattle.table_store.proofs.Memory.{retain_within, retain_zeros}
 use Rattle.table_store.proofs.slice.RecordSliceRecordList.retain.Goals as goal
 
