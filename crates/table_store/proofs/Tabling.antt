@@ -273,8 +273,8 @@ module _ (empty l : RecordSlice) (none : empty.kept ≡ 0) (fit : is_table_size 
 
 -- a table that shows the records of a new store
 module _ (mem : List Record) (n : ℕ) (shown : shown_in mem n ≡ first_records keys) where
-  pub new_sound : sound_table mem n 0 ≡ true
-  new_sound = sound_at mem n 0 (first_records keys) shown (first_sound 0) (first_order keys)
+  pub new_sound : (last : ℕ) → sound_table mem n last ≡ true
+  new_sound last = sound_at mem n last (first_records keys) shown (first_sound last) (first_order keys)
 
   pub new_meaning : (size : ℕ) → length mem ≡ size → table_meaning mem n 0 ≡ new_store (capacity_of size)
   new_meaning size long = meaning_at mem n 0 (capacity_of size) (first_records keys) (new_store 0).kept (ap capacity_of long) shown first_kept

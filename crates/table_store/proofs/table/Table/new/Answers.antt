@@ -5,7 +5,7 @@ use Rattle.table_store.proofs.table.Table.new.Goals as goal
 pub invariant_of-result : goal.invariant_of-result
 invariant_of-result c =
     let list = c.first_list-list.result in
-    record { sound = new_sound list.memory.now list.kept c.first_list-list.ensures.shown }
+    record { sound = new_sound list.memory.now list.kept c.first_list-list.ensures.shown _ }
 
 pub returns : goal.returns
 returns c =
@@ -13,6 +13,6 @@ returns c =
     let ensures = c.first_list-list.ensures in
     record {
       meaning = new_meaning list.memory.now list.kept ensures.shown _ ensures.size;
-      laid = held list 0 (new_sound list.memory.now list.kept ensures.shown);
+      laid = held list _ (new_sound list.memory.now list.kept ensures.shown _);
       alone = ensures.alone;
     }
