@@ -18,17 +18,18 @@ invariant_of-self-2 c =
     let ok = c.in_ok-write_all.ensures in
     record { sound = (table_write c.args.self.now c.args.timestamp c.args.writes.now c.requires ok.answer c.write_all.new.log ok.after).sound }
 
-pub returns : goal.returns
-returns c =
-    let b = c.args.self.now in
-    let t = c.args.timestamp in
-    let ws = c.args.writes.now in
+pub returns-clause-answer : goal.returns-clause-answer
+returns-clause-answer c = c.in_ok-write_all.ensures.answer ∙ commit_room c.args.self.now c.args.timestamp c.args.writes.now c.requires
+
+pub returns-clause-after : goal.returns-clause-after
+returns-clause-after c =
     let ok = c.in_ok-write_all.ensures in
-    let changed = table_write b t ws c.requires ok.answer c.write_all.new.log ok.after in
-    record {
-      answer = ok.answer ∙ commit_room b t ws c.requires;
-      after = changed.meaning;
-      unchanged = tt;
-      laid = held c.write_all.new.log t changed.sound;
-      alone = λ unfit. absurd (write_alone b t ws c.requires ok.answer unfit);
-    }
+    (table_write c.args.self.now c.args.timestamp c.args.writes.now c.requires ok.answer c.write_all.new.log ok.after).meaning
+
+pub returns-clause-laid : goal.returns-clause-laid
+returns-clause-laid c =
+    let ok = c.in_ok-write_all.ensures in
+    held c.write_all.new.log c.args.timestamp (table_write c.args.self.now c.args.timestamp c.args.writes.now c.requires ok.answer c.write_all.new.log ok.after).sound
+
+pub returns-clause-alone : goal.returns-clause-alone
+returns-clause-alone c unfit = absurd (write_alone c.args.self.now c.args.timestamp c.args.writes.now c.requires c.in_ok-write_all.ensures.answer unfit)
