@@ -1,7 +1,6 @@
 -- Records that are added one by one where there is room for all of them stand behind the others.
-use Rattle.std.proofs.Common.{◌≡◌, ℕ, ◌+◌, ◌<◌, ◌≤◌, List, [], ◌∷◌, ◌++◌, map, length, get_or, take, sym, refl, ap, ◌∙◌, append_assoc, add-one, arith}
-use Rattle.std.proofs.lemmas.List.{append-nil, length-append, length-map, length_push, map-append, take_all, take_more}
-use Rattle.snapshot.specs.Accounts.{zero_write}
+use Rattle.std.proofs.Common.{◌≡◌, ℕ, ◌+◌, ◌≤◌, List, [], ◌∷◌, ◌++◌, map, length, sym, refl, ap, ◌∙◌, append_assoc, add-one, arith}
+use Rattle.std.proofs.lemmas.List.{append-nil, length-append, length-map, length_push, take_all}
 use Rattle.snapshot.specs.declared.account.Write.{Write}
 use Rattle.store.specs.Meaning.{written_to}
 use Rattle.table_store.proofs.Dropping.{same_function}
@@ -9,15 +8,9 @@ use Rattle.table_store.specs.PerKeys.{per_key}
 use Rattle.table_store.specs.Records.{Listing, after_writes, drop_firsts, excess, first_records, of_key, record_of, with_all, with_one_more, with_records, written}
 use Rattle.table_store.specs.declared.record.Record.{Record}
 
-pub all_more : (rs : List Record) (r : Record) (l : Listing) → with_all (rs ++ r ∷ []) l ≡ with_one_more (with_all rs l) r
+all_more : (rs : List Record) (r : Record) (l : Listing) → with_all (rs ++ r ∷ []) l ≡ with_one_more (with_all rs l) r
 all_more [] r l = refl
 all_more (q ∷ rs) r l = all_more rs r (with_one_more l q)
-
-pub written_more : (t : ℕ) (ws : List Write) (i : ℕ) (l : Listing) → i < length ws → with_all (map (written t) (take (i + 1) ws)) l ≡ with_one_more (with_all (map (written t) (take i ws)) l) (written t (get_or ws i zero_write))
-written_more t ws i l lt =
-    ap (λ xs. with_all (map (written t) xs) l) (take_more ws i zero_write lt)
-    ∙ ap (λ rs. with_all rs l) (map-append (written t) (take i ws) (get_or ws i zero_write ∷ []))
-    ∙ all_more (map (written t) (take i ws)) (written t (get_or ws i zero_write)) l
 
 pub first_none : (l : Listing) → with_all (first_records 0) l ≡ l
 unfolding first_records

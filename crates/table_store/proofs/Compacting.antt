@@ -1,6 +1,6 @@
 -- Records that a test keeps, moved to the front of where they stand.
 use Rattle.std.proofs.Common.{◌≡◌, ℕ, ◌+◌, ◌-◌, ◌<◌, ◌≤◌, Bool, true, false, if◌then◌else◌, List, [], ◌∷◌, ◌++◌, length, get_or, take, drop, set, sym, refl, ap, ◌∙◌, subst, append_assoc, add-zero, arith}
-use Rattle.std.proofs.lemmas.List.{append-nil, drop_all, drop_at, drop-drop, drop_more, drop-set-lt, get_or-drop, length-drop, length-take-le, take_more_set}
+use Rattle.std.proofs.lemmas.List.{append-nil, drop_all, drop-drop, drop_more, drop-set-lt, get_or-drop, take_more_set}
 use Rattle.std.proofs.lemmas.Slice.{take-put_mid_below}
 use Rattle.std.specs.List.Retain.{IsFiltered}
 use borrow.Rule.Slice.PartMut.{put_mid}
@@ -14,9 +14,6 @@ module _ {P : Type 0} (R : P → Record → Bool → P → Type 0) where
     pub whole : (ys : List Record) → IsFiltered R q (drop place rs) ys → IsFiltered R p rs (take left xs ++ ys)
     pub rest : drop place xs ≡ drop place rs
     pub within : left ≤ place
-
-  pub none_moved : (p : P) (rs : List Record) → Moved p rs p rs 0 0
-  none_moved p rs = record { whole = λ ys h. h; rest = refl; within = omega arith }
 
   -- the test is shown one record, and then the others
   one_shown : (p q : P) (r : Record) (b : Bool) (rs ys : List Record) → R p r b q → IsFiltered R q rs ys → IsFiltered R p (r ∷ rs) (if b then r ∷ ys else ys)
@@ -62,18 +59,9 @@ module _ {P : Type 0} (R : P → Record → Bool → P → Type 0) where
           }
 
     -- all were shown, and ys now stands in the place of what comes after those that stay
-    module _ (ys : List Record) (past : length rs ≤ place) (fits : left ≤ length rs) where
-      abbrev after : List Record
-      after = put_mid left (length xs - left) xs ys
-
-      pub all_kept : IsFiltered R p rs (take left after)
-      all_kept =
-          let none : IsFiltered R q (drop place rs) [] = subst (λ zs. IsFiltered R q zs []) (sym (drop_all place rs past)) ([], q, refl, refl, refl) in
-          let front : take left xs ++ [] ≡ take left after =
-          append-nil (take left xs) ∙ sym (take-put_mid_below left (length xs - left) xs ys left (omega arith) (omega (arith, long, fits))) in
-          subst (IsFiltered R p rs) front (m.whole [] none)
-
-      pub all_else : drop left after ≡ ys
-      all_else =
-          let nothing : drop (length xs - left) (drop left xs) ≡ [] = drop_all (length xs - left) (drop left xs) (omega (arith, length-drop left xs)) in
-          drop_at (take left xs) _ left (length-take-le left xs (omega (arith, long, fits))) ∙ ap (λ zs. ys ++ zs) nothing ∙ append-nil ys
+    pub all_kept : (ys : List Record) → length rs ≤ place → left ≤ length rs → IsFiltered R p rs (take left (put_mid left (length xs - left) xs ys))
+    all_kept ys past fits =
+        let none : IsFiltered R q (drop place rs) [] = subst (λ zs. IsFiltered R q zs []) (sym (drop_all place rs past)) ([], q, refl, refl, refl) in
+        let front : take left xs ++ [] ≡ take left (put_mid left (length xs - left) xs ys) =
+        append-nil (take left xs) ∙ sym (take-put_mid_below left (length xs - left) xs ys left (omega arith) (omega (arith, long, fits))) in
+        subst (IsFiltered R p rs) front (m.whole [] none)

@@ -48,16 +48,9 @@ module _ (p q : PerKey) (f f' : ℕ → ℕ) (key n : ℕ) (old : Numbers p f) (
       (λ ne. other k ne (others k ne))
       (cases_eq key k)
 
-zero_at : (b : Bool) (x : ℕ) → x ≡ 0 → (if b then x else 0) ≡ 0
-zero_at true x e = e
-zero_at false x e = refl
-
 -- numbers that agree at each key
 pub same_numbers : (p : PerKey) (f f' : ℕ → ℕ) → Numbers p f → ((k : ℕ) → f' k ≡ f k) → Numbers p f'
 same_numbers p f f' old same k = old k ∙ ap (λ x. if is_key k then x else 0) (sym (same k))
-
-pub none_yet : (p : PerKey) → ((k : ℕ) → number_for p k ≡ 0) → (f : ℕ → ℕ) → ((k : ℕ) → f k ≡ 0) → Numbers p f
-none_yet p zero_each f none k = zero_each k ∙ sym (zero_at (is_key k) (f k) (none k))
 
 -- the number of versions of each key
 abbrev pub counted : List Record → ℕ → ℕ

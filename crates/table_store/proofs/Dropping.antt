@@ -1,6 +1,6 @@
 -- Dropping the first records of each key, walked from the front: what is left to look at, and what stays in place.
-use Rattle.std.proofs.Common.{◌≡◌, ℕ, ◌+◌, ◌-◌, ◌<◌, ◌≤◌, Bool, true, false, not, ◌==◌, nat_lt, List, [], ◌∷◌, length, get_or, drop, sym, refl, ap, ◌∙◌, add-one, arith}
-use Rattle.std.proofs.lemmas.List.{at_drop_more, at_drop_all}
+use Rattle.std.proofs.Common.{◌≡◌, ℕ, ◌+◌, ◌-◌, ◌<◌, Bool, true, false, not, ◌==◌, nat_lt, List, [], ◌∷◌, length, get_or, drop, sym, refl, ap, ◌∙◌, add-one, arith}
+use Rattle.std.proofs.lemmas.List.{at_drop_more}
 use Rattle.std.proofs.lemmas.Bool.{not-true, not-false, cond-true, cond-false, cond_both, eqb-true, ltb-false}
 use Rattle.std.specs.List.{items_where_true}
 use Rattle.std.specs.List.Retain.{IsFiltered, ReturnsInTurn}
@@ -60,6 +60,3 @@ module _ (rs : List Record) (e e' : ℕ → ℕ) (place : ℕ) (lt : place < len
 
   pub counted_stays : nat_lt 0 (e r.key) ≡ false → length (drop_firsts e (drop place rs)) ≡ length (drop_firsts e' (drop (place + 1) rs)) + 1
   counted_stays none = ahead ∙ ap length (first_stays e e' r (drop (place + 1) rs) after none) ∙ sym (add-one _)
-
-pub counted_all : (rs : List Record) (e : ℕ → ℕ) (place : ℕ) → length rs ≤ place → length (drop_firsts e (drop place rs)) ≡ 0
-counted_all rs e place past = at_drop_all (λ xs. length (drop_firsts e xs)) rs place past

@@ -1,11 +1,12 @@
 -- What dropping first records and adding the records of writes do to a list: its order, its soundness, and the versions
 -- of each key.
 use Rattle.std.proofs.Common.{◌≡◌, ℕ, zero, suc, ◌+◌, ◌-◌, ◌<◌, ◌≤◌, Bool, true, false, if◌then◌else◌, ◌&&◌, ◌==◌, nat_lt, List, [], ◌∷◌, ◌++◌, map, length, drop, Some, None, filter, Option, sym, refl, ap, ◌∙◌, ⊎_elim, arith}
-use Rattle.std.specs.List.{AllByRecursion}
+use Rattle.std.specs.List.{AllByRecursion, list_all}
 use Rattle.std.proofs.lemmas.List.{append-nil, drop_all, drop-append-le, length_push}
+use Rattle.std.proofs.lemmas.List.Folds.{list_all-append}
 use Rattle.std.proofs.lemmas.Bool.{and_parts, and_from, cases_Bool, cond_both, cond-true, cond-false, eqb-true, eqb-false, eq-eqb, ne_eqb, ltb-true, ltb-false}
 use Rattle.std.proofs.lemmas.Bool.Decides.{nat_tests}
-use Rattle.snapshot.specs.Accounts.{all, rising_from}
+use Rattle.snapshot.specs.Accounts.{rising_from}
 use Rattle.snapshot.specs.Limits.{keys, is_key}
 use Rattle.snapshot.specs.declared.account.Write.{Write}
 use Rattle.store.specs.Laws.{versions_of}
@@ -20,46 +21,43 @@ use Rattle.table_store.specs.declared.record.Record.{Record}
 
 -- Tests of every record.
 
-pub all_both : {X : Type 0} (p : X → Bool) (xs ys : List X) → all p xs ≡ true → all p ys ≡ true → all p (xs ++ ys) ≡ true
-all_both p [] ys a b = b
-all_both p (x ∷ xs) ys a b =
-    let parts = and_parts (p x) (all p xs) a in
-    and_from (p x) (all p (xs ++ ys)) parts.0 (all_both p xs ys parts.1 b)
+all_both : {X : Type 0} (p : X → Bool) (xs ys : List X) → list_all p xs ≡ true → list_all p ys ≡ true → list_all p (xs ++ ys) ≡ true
+all_both p xs ys a b = list_all-append p xs ys ∙ and_from (list_all p xs) (list_all p ys) a b
 
-pub all_from : {X : Type 0} (p q : X → Bool) → ((x : X) → p x ≡ true → q x ≡ true) → (xs : List X) → all p xs ≡ true → all q xs ≡ true
+pub all_from : {X : Type 0} (p q : X → Bool) → ((x : X) → p x ≡ true → q x ≡ true) → (xs : List X) → list_all p xs ≡ true → list_all q xs ≡ true
 all_from p q f [] a = refl
 all_from p q f (x ∷ xs) a =
-    let parts = and_parts (p x) (all p xs) a in
-    and_from (q x) (all q xs) (f x parts.0) (all_from p q f xs parts.1)
+    let parts = and_parts (p x) (list_all p xs) a in
+    and_from (q x) (list_all q xs) (f x parts.0) (all_from p q f xs parts.1)
 
 -- what is left passes every test that all passed
-pub all_left : (p : Record → Bool) (e : ℕ → ℕ) (rs : List Record) → all p rs ≡ true → all p (drop_firsts e rs) ≡ true
+pub all_left : (p : Record → Bool) (e : ℕ → ℕ) (rs : List Record) → list_all p rs ≡ true → list_all p (drop_firsts e rs) ≡ true
 all_left p e [] a = refl
 all_left p e (r ∷ rs) a =
-    let parts = and_parts (p r) (all p rs) a in
-    cond_both (nat_lt 0 (e r.key)) (drop_firsts (one_less e r.key) rs) (r ∷ drop_firsts e rs) (λ xs. all p xs ≡ true)
+    let parts = and_parts (p r) (list_all p rs) a in
+    cond_both (nat_lt 0 (e r.key)) (drop_firsts (one_less e r.key) rs) (r ∷ drop_firsts e rs) (λ xs. list_all p xs ≡ true)
     (λ _. all_left p (one_less e r.key) rs parts.1)
-    (λ _. and_from (p r) (all p (drop_firsts e rs)) parts.0 (all_left p e rs parts.1))
+    (λ _. and_from (p r) (list_all p (drop_firsts e rs)) parts.0 (all_left p e rs parts.1))
 
 -- Order.
 
 pub order_left : (e : ℕ → ℕ) (rs : List Record) → in_order rs ≡ true → in_order (drop_firsts e rs) ≡ true
 order_left e [] o = refl
 order_left e (r ∷ rs) o =
-    let parts = and_parts (all (is_before r) rs) (in_order rs) o in
+    let parts = and_parts (list_all (is_before r) rs) (in_order rs) o in
     cond_both (nat_lt 0 (e r.key)) (drop_firsts (one_less e r.key) rs) (r ∷ drop_firsts e rs) (λ xs. in_order xs ≡ true)
     (λ _. order_left (one_less e r.key) rs parts.1)
-    (λ _. and_from (all (is_before r) (drop_firsts e rs)) (in_order (drop_firsts e rs)) (all_left (is_before r) e rs parts.0) (order_left e rs parts.1))
+    (λ _. and_from (list_all (is_before r) (drop_firsts e rs)) (in_order (drop_firsts e rs)) (all_left (is_before r) e rs parts.0) (order_left e rs parts.1))
 
 -- each of xs is before each of ys
 abbrev pub Ahead : List Record → List Record → Type 0
-Ahead xs ys = AllByRecursion (λ x. all (is_before x) ys ≡ true) xs
+Ahead xs ys = AllByRecursion (λ x. list_all (is_before x) ys ≡ true) xs
 
 pub order_both : (xs ys : List Record) → in_order xs ≡ true → in_order ys ≡ true → Ahead xs ys → in_order (xs ++ ys) ≡ true
 order_both [] ys a b ahead = b
 order_both (x ∷ xs) ys a b ahead =
-    let parts = and_parts (all (is_before x) xs) (in_order xs) a in
-    and_from (all (is_before x) (xs ++ ys)) (in_order (xs ++ ys)) (all_both (is_before x) xs ys parts.0 ahead.0) (order_both xs ys parts.1 b ahead.1)
+    let parts = and_parts (list_all (is_before x) xs) (in_order xs) a in
+    and_from (list_all (is_before x) (xs ++ ys)) (in_order (xs ++ ys)) (all_both (is_before x) xs ys parts.0 ahead.0) (order_both xs ys parts.1 b ahead.1)
 
 -- The versions of a key.
 
@@ -114,10 +112,10 @@ of_key_left k e (r ∷ rs) =
     (λ none. one_stays k e r rs none (of_key_left k e rs))
 
 -- a key that there is not has no versions
-pub of_key_none : (k : ℕ) (rs : List Record) → all (λ r. is_key r.key) rs ≡ true → is_key k ≡ false → of_key k rs ≡ []
+pub of_key_none : (k : ℕ) (rs : List Record) → list_all (λ r. is_key r.key) rs ≡ true → is_key k ≡ false → of_key k rs ≡ []
 of_key_none k [] a past = refl
 of_key_none k (r ∷ rs) a past =
-    let parts = and_parts (is_key r.key) (all (λ q. is_key q.key) rs) a in
+    let parts = and_parts (is_key r.key) (list_all (λ q. is_key q.key) rs) a in
     let other : (r.key == k) ≡ false = grind (arith, nat_tests, parts.0) in
     cons_no k r rs other ∙ of_key_none k rs parts.1 past
 
@@ -140,19 +138,19 @@ of_key_written k t least (w ∷ ws) rising =
     ∙ ap (versions_of (Some t)) (sym (cond-false (w.key == k) (Some w.value) (written_to k ws) other)))
     (cases_Bool (w.key == k))
 
-written_sound : (t least : ℕ) (ws : List Write) → rising_from least ws ≡ true → all (sound_record t) (map (written t) ws) ≡ true
+written_sound : (t least : ℕ) (ws : List Write) → rising_from least ws ≡ true → list_all (sound_record t) (map (written t) ws) ≡ true
 written_sound t least [] rising = refl
 written_sound t least (w ∷ ws) rising =
-    and_from (sound_record t (written t w)) (all (sound_record t) (map (written t) ws))
+    and_from (sound_record t (written t w)) (list_all (sound_record t) (map (written t) ws))
     (grind (arith, nat_tests, (rising_keys least (w ∷ ws) rising).0))
     (written_sound t (suc w.key) ws (rising_later least w ws rising))
 
 -- writes whose keys start above this record's come after it
-after_one : (t least : ℕ) (r : Record) (ws : List Write) → r.timestamp ≡ t → r.key < least → rising_from least ws ≡ true → all (is_before r) (map (written t) ws) ≡ true
+after_one : (t least : ℕ) (r : Record) (ws : List Write) → r.timestamp ≡ t → r.key < least → rising_from least ws ≡ true → list_all (is_before r) (map (written t) ws) ≡ true
 after_one t least r [] now below rising = refl
 after_one t least r (w ∷ ws) now below rising =
     let le : least ≤ w.key = grind (arith, nat_tests) in
-    and_from (is_before r (written t w)) (all (is_before r) (map (written t) ws))
+    and_from (is_before r (written t w)) (list_all (is_before r) (map (written t) ws))
     (grind (arith, nat_tests))
     (after_one t (suc w.key) r ws now (omega arith) (rising_later least w ws rising))
 
@@ -160,29 +158,29 @@ written_order : (t least : ℕ) (ws : List Write) → rising_from least ws ≡ t
 written_order t least [] rising = refl
 written_order t least (w ∷ ws) rising =
     let later = rising_later least w ws rising in
-    and_from (all (is_before (written t w)) (map (written t) ws)) (in_order (map (written t) ws))
+    and_from (list_all (is_before (written t w)) (map (written t) ws)) (in_order (map (written t) ws))
     (after_one t (suc w.key) (written t w) ws refl (omega arith) later)
     (written_order t (suc w.key) ws later)
 
 -- a record up to last is before every record of a later commit
-before_later : (last t : ℕ) (r : Record) (ws : List Write) → last < t → sound_record last r ≡ true → all (is_before r) (map (written t) ws) ≡ true
+before_later : (last t : ℕ) (r : Record) (ws : List Write) → last < t → sound_record last r ≡ true → list_all (is_before r) (map (written t) ws) ≡ true
 before_later last t r [] lt sound = refl
 before_later last t r (w ∷ ws) lt sound =
-    and_from (is_before r (written t w)) (all (is_before r) (map (written t) ws)) (grind (arith, nat_tests)) (before_later last t r ws lt sound)
+    and_from (is_before r (written t w)) (list_all (is_before r) (map (written t) ws)) (grind (arith, nat_tests)) (before_later last t r ws lt sound)
 
-all_ahead : (last t : ℕ) (rs : List Record) (ws : List Write) → last < t → all (sound_record last) rs ≡ true → Ahead rs (map (written t) ws)
+all_ahead : (last t : ℕ) (rs : List Record) (ws : List Write) → last < t → list_all (sound_record last) rs ≡ true → Ahead rs (map (written t) ws)
 all_ahead last t [] ws lt sound = tt
 all_ahead last t (r ∷ rs) ws lt sound =
-    let parts = and_parts (sound_record last r) (all (sound_record last) rs) sound in
+    let parts = and_parts (sound_record last r) (list_all (sound_record last) rs) sound in
     (before_later last t r ws lt parts.0, all_ahead last t rs ws lt parts.1)
 
 -- A commit.
 
-module _ (depth last t : ℕ) (ws : List Write) (rs : List Record) (lt : last < t) (rising : rising_from 0 ws ≡ true) (sound : all (sound_record last) rs ≡ true) where
+module _ (depth last t : ℕ) (ws : List Write) (rs : List Record) (lt : last < t) (rising : rising_from 0 ws ≡ true) (sound : list_all (sound_record last) rs ≡ true) where
   abbrev e : ℕ → ℕ
   e = per_key (λ k. excess depth (written_to k ws) (of_key k rs))
 
-  pub commit_sound : all (sound_record t) (after_writes depth t ws rs) ≡ true
+  pub commit_sound : list_all (sound_record t) (after_writes depth t ws rs) ≡ true
   commit_sound =
       all_both (sound_record t) (drop_firsts e rs) (map (written t) ws)
       (all_from (sound_record last) (sound_record t) (λ r s. grind (arith, nat_tests)) (drop_firsts e rs) (all_left (sound_record last) e rs sound))
@@ -221,7 +219,7 @@ of_key_commit depth t ws rs deep rising k =
 
 -- A prune.
 
-pub of_key_prune : (h : ℕ) (rs : List Record) → all (λ r. is_key r.key) rs ≡ true → (k : ℕ) → of_key k (without_outdated h rs) ≡ drop (outdated h (of_key k rs)) (of_key k rs)
+pub of_key_prune : (h : ℕ) (rs : List Record) → list_all (λ r. is_key r.key) rs ≡ true → (k : ℕ) → of_key k (without_outdated h rs) ≡ drop (outdated h (of_key k rs)) (of_key k rs)
 of_key_prune h rs keyed k =
     let f : ℕ → ℕ = λ j. outdated h (of_key j rs) in
     of_key_left k (per_key f) rs
@@ -257,15 +255,15 @@ unfolding versions_below
 none_below zero = refl
 none_below (suc n) = omega (arith, none_below n)
 
-pub versions_together : (rs : List Record) → all (λ r. is_key r.key) rs ≡ true → versions_below keys (λ k. of_key k rs) ≡ length rs
+pub versions_together : (rs : List Record) → list_all (λ r. is_key r.key) rs ≡ true → versions_below keys (λ k. of_key k rs) ≡ length rs
 versions_together [] a = none_below keys
 versions_together (r ∷ rs) a =
-    let parts = and_parts (is_key r.key) (all (λ q. is_key q.key) rs) a in
+    let parts = and_parts (is_key r.key) (list_all (λ q. is_key q.key) rs) a in
     omega (arith, one_more_below keys r rs, versions_together rs parts.1, cond-true {A = ℕ} (nat_lt r.key keys) 1 0 parts.0)
 
 -- A new store.
 
-first_keys : (n : ℕ) → all (λ r. nat_lt r.key n && r.timestamp == 0) (first_records n) ≡ true
+first_keys : (n : ℕ) → list_all (λ r. nat_lt r.key n && r.timestamp == 0) (first_records n) ≡ true
 unfolding first_records
 first_keys zero = refl
 first_keys (suc n) =
@@ -273,13 +271,13 @@ first_keys (suc n) =
     (all_from (λ r. nat_lt r.key n && r.timestamp == 0) (λ r. nat_lt r.key (suc n) && r.timestamp == 0) (λ r h. grind (arith, nat_tests)) (first_records n) (first_keys n))
     (grind (arith, nat_tests))
 
-pub first_sound : (last : ℕ) → all (sound_record last) (first_records keys) ≡ true
+pub first_sound : (last : ℕ) → list_all (sound_record last) (first_records keys) ≡ true
 first_sound last = all_from (λ r. nat_lt r.key keys && r.timestamp == 0) (sound_record last) (λ r h. grind (arith, nat_tests)) (first_records keys) (first_keys keys)
 
-ahead_of_next : (n : ℕ) (rs : List Record) → all (λ r. nat_lt r.key n && r.timestamp == 0) rs ≡ true → Ahead rs (record_of n 0 0 ∷ [])
+ahead_of_next : (n : ℕ) (rs : List Record) → list_all (λ r. nat_lt r.key n && r.timestamp == 0) rs ≡ true → Ahead rs (record_of n 0 0 ∷ [])
 ahead_of_next n [] a = tt
 ahead_of_next n (r ∷ rs) a =
-    let parts = and_parts (nat_lt r.key n && r.timestamp == 0) (all (λ q. nat_lt q.key n && q.timestamp == 0) rs) a in
+    let parts = and_parts (nat_lt r.key n && r.timestamp == 0) (list_all (λ q. nat_lt q.key n && q.timestamp == 0) rs) a in
     (grind (arith, nat_tests, parts.0), ahead_of_next n rs parts.1)
 
 pub first_order : (n : ℕ) → in_order (first_records n) ≡ true

@@ -1,8 +1,8 @@
--- Looking for the newest version up to a time, from the newest end: what the last record decides.
+-- Looking for the newest version up to a time, from the newest end: what the last record decides where it is of the key.
 use Rattle.std.proofs.Common.{◌≡◌, ℕ, ◌-◌, ◌<◌, ◌≤◌, nat_le, List, [], ◌∷◌, ◌++◌, Some, ap, ◌∙◌}
-use Rattle.std.proofs.lemmas.Bool.{cond-true, cond-false, eq-eqb, le-leb, lt-leb, ne_eqb}
+use Rattle.std.proofs.lemmas.Bool.{cond-true, cond-false, eq-eqb, le-leb, lt-leb}
 use Rattle.store.specs.Meaning.{reading_of, newest_at}
-use Rattle.table_store.proofs.Keys.{of_key_push_yes, of_key_push_no}
+use Rattle.table_store.proofs.Keys.{of_key_push_yes}
 use Rattle.table_store.proofs.Pushes.{newest_push}
 use Rattle.table_store.specs.Records.{version_in, of_key}
 use Rattle.table_store.specs.declared.record.Record.{Record}
@@ -21,6 +21,3 @@ module _ (k s end : ℕ) (rs : List Record) (r : Record) (all : List Record) (is
       ∙ ap (newest_at s end) (of_key_push_yes k rs r (eq-eqb r.key k e))
       ∙ newest_push s end (of_key k rs) (version_in r)
       ∙ cond-false (nat_le r.timestamp s) _ _ (lt-leb r.timestamp s lt)
-
-  pub looked_other : (r.key ≡ k → ⊥) → newest_at s end (of_key k all) ≡ newest_at s end (of_key k rs)
-  looked_other ne = ap (λ xs. newest_at s end (of_key k xs)) is ∙ ap (newest_at s end) (of_key_push_no k rs r (ne_eqb r.key k ne))

@@ -1,10 +1,11 @@
--- The list in lent memory: its room, the zeros after it, and what one record more and a retain leave of both.
-use Rattle.std.proofs.Common.{◌≡◌, ℕ, zero, suc, ◌+◌, ◌<◌, ◌≤◌, true, false, if◌then◌else◌, List, [], ◌∷◌, ◌++◌, length, take, drop, set, replicate, sym, refl, ap, ◌∙◌, subst, arith}
-use Rattle.std.proofs.lemmas.Bool.{and_parts, cond_both, cond-true, cond-false}
-use Rattle.std.proofs.lemmas.List.{drop-append-le, drop-drop, length-append, length-drop, length_push, length-set, length-take, take_all, take-append-le, take_at, take_more_set}
-use Rattle.snapshot.specs.Accounts.{all}
-use Rattle.table_store.specs.Records.{no_record, with_one_more}
-use Rattle.table_store.specs.Tables.{is_table_size, is_zero, listing_in, room_in, zeros_after}
+-- The list in lent memory: its room, the zeros after it, and what a retain leaves of both.
+use Rattle.std.proofs.Common.{◌≡◌, ℕ, zero, suc, ◌+◌, ◌≤◌, true, false, if◌then◌else◌, List, [], ◌∷◌, ◌++◌, length, take, drop, replicate, sym, refl, ap, ◌∙◌, subst, arith}
+use Rattle.std.proofs.lemmas.List.Folds.{list_all-append}
+use Rattle.std.specs.List.{list_all}
+use Rattle.std.proofs.lemmas.Bool.{and_from, and_parts, cond_both, cond-true, cond-false}
+use Rattle.std.proofs.lemmas.List.{drop-append-le, drop-drop, length-append, length-drop, length-take}
+use Rattle.table_store.specs.Records.{no_record}
+use Rattle.table_store.specs.Tables.{is_table_size, is_zero, room_in, zeros_after}
 use Rattle.table_store.specs.declared.record.Record.{Record}
 
 -- Room.
@@ -24,37 +25,16 @@ same_room mem mem' e = ap (λ n. if is_table_size n then n else 0) e
 
 -- Zeros.
 
-pub all_zeros : (n : ℕ) (xs : List Record) → all is_zero xs ≡ true → all is_zero (replicate n no_record ++ xs) ≡ true
-all_zeros zero xs e = e
-all_zeros (suc n) xs e = all_zeros n xs e
-
-pub zeroed : (n : ℕ) → all is_zero (replicate n no_record) ≡ true
+pub zeroed : (n : ℕ) → list_all is_zero (replicate n no_record) ≡ true
 zeroed zero = refl
 zeroed (suc n) = zeroed n
 
-tail : (xs : List Record) → all is_zero xs ≡ true → all is_zero (drop 1 xs) ≡ true
+tail : (xs : List Record) → list_all is_zero xs ≡ true → list_all is_zero (drop 1 xs) ≡ true
 tail [] e = refl
-tail (x ∷ xs) e = (and_parts (is_zero x) (all is_zero xs) e).1
+tail (x ∷ xs) e = (and_parts (is_zero x) (list_all is_zero xs) e).1
 
 pub zeros_after_more : (mem : List Record) (n : ℕ) → zeros_after mem n ≡ true → zeros_after mem (n + 1) ≡ true
-zeros_after_more mem n e = subst (λ xs. all is_zero xs ≡ true) (drop-drop 1 n mem) (tail (drop n mem) e)
-
--- One record more.
-
-module _ (mem : List Record) (kept : ℕ) (r : Record) where
-  pub push_listing : kept < room_in mem → listing_in (set mem kept r) (kept + 1) ≡ with_one_more (listing_in mem kept) r
-  push_listing lt =
-      let le = room_le mem in
-      let fits = take_all (room_in mem) (take kept mem ++ r ∷ []) (omega (arith, lt, length_push (take kept mem) r, length-take kept mem)) in
-      λ i. record {
-        records = (take_more_set mem kept r (omega (arith, lt, le)) ∙ sym fits) i;
-        room = same_room mem (set mem kept r) (length-set mem kept r) i;
-      }
-
-  pub push_full : kept ≤ room_in mem → room_in mem ≤ kept → listing_in mem kept ≡ with_one_more (listing_in mem kept) r
-  push_full within full =
-      let long : length (take kept mem) ≡ room_in mem = omega (arith, within, full, room_le mem, length-take kept mem) in
-      λ i. record { records = sym (take_at (take kept mem) (r ∷ []) (room_in mem) long) i; room = room_in mem }
+zeros_after_more mem n e = subst (λ xs. list_all is_zero xs ≡ true) (drop-drop 1 n mem) (tail (drop n mem) e)
 
 -- A retain: xs is what now stands in the place of the first `kept` records.
 
@@ -73,11 +53,9 @@ module _
     pub retain_within : left ≤ room_in after
     retain_within = omega (arith, retain_room, some, within, length-take kept mem)
 
-    pub retain_front : take left after ≡ take left xs
-    retain_front = take-append-le left xs (drop kept mem) (omega (arith, some, long))
-
     pub retain_zeros :
         (n : ℕ) → drop left xs ≡ replicate n no_record → (is_table_size (length mem) ≡ true → zeros_after mem kept ≡ true) → is_table_size (length after) ≡ true → zeros_after after left ≡ true
     retain_zeros n zeros tidy fit =
-        ap (all is_zero) (drop-append-le left xs (drop kept mem) (omega (arith, some, long)) ∙ ap (λ ys. ys ++ drop kept mem) zeros)
-        ∙ all_zeros n (drop kept mem) (tidy (ap is_table_size (sym as_long) ∙ fit))
+        ap (list_all is_zero) (drop-append-le left xs (drop kept mem) (omega (arith, some, long)) ∙ ap (λ ys. ys ++ drop kept mem) zeros)
+        ∙ list_all-append is_zero (replicate n no_record) (drop kept mem)
+        ∙ and_from (list_all is_zero (replicate n no_record)) (list_all is_zero (drop kept mem)) (zeroed n) (tidy (ap is_table_size (sym as_long) ∙ fit))

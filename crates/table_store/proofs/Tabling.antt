@@ -1,11 +1,10 @@
 -- A table's memory, its meaning and its layout: what its soundness says, and what a new store, a commit and a prune leave.
 use Rattle.std.proofs.Common.{◌≡◌, ℕ, ◌-◌, ◌<◌, ◌≤◌, Bool, true, false, if◌then◌else◌, ◌&&◌, ◌==◌, nat_lt, nat_le, List, [], ◌∷◌, ◌++◌, length, take, drop, replicate, Some, None, Ok, Err, Option, Result, sym, refl, ap, ◌∙◌, subst, ⊎_elim, arith}
 use Rattle.std.specs.Option.{option_or}
-use Rattle.std.specs.List.{AllByRecursion}
+use Rattle.std.specs.List.{AllByRecursion, list_all}
 use Rattle.std.proofs.lemmas.List.{length-drop, length-take, take-append-drop}
 use Rattle.std.proofs.lemmas.Bool.{and_parts, and_from, both_ways, cases_Bool, cond_both, cond-true, cond-false, eqb-true, leb-true, le-leb, lt-leb}
 use Rattle.std.proofs.lemmas.Bool.Decides.{nat_tests}
-use Rattle.snapshot.specs.Accounts.{all}
 use Rattle.snapshot.specs.Limits.{keys, is_key}
 use Rattle.snapshot.specs.declared.account.Write.{Write}
 use Rattle.snapshot.specs.declared.fault.Fault.{Fault}
@@ -42,18 +41,18 @@ shown_unfit mem n unfit = cond-false (is_table_size (length mem)) (take n mem) (
 -- Soundness.
 
 pub record Sound (mem : List Record) (n last : ℕ) : Type 0 where
-  pub records : all (sound_record last) (shown_in mem n) ≡ true
+  pub records : list_all (sound_record last) (shown_in mem n) ≡ true
   pub order : in_order (shown_in mem n) ≡ true
 
 pub sound_parts : (mem : List Record) (n last : ℕ) → sound_table mem n last ≡ true → Sound mem n last
 sound_parts mem n last s =
-    let both = and_parts (all (sound_record last) (shown_in mem n)) (in_order (shown_in mem n)) s in
+    let both = and_parts (list_all (sound_record last) (shown_in mem n)) (in_order (shown_in mem n)) s in
     record { records = both.0; order = both.1 }
 
 -- a table that shows these records is sound
-pub sound_at : (mem : List Record) (n last : ℕ) (rs : List Record) → shown_in mem n ≡ rs → all (sound_record last) rs ≡ true → in_order rs ≡ true → sound_table mem n last ≡ true
+pub sound_at : (mem : List Record) (n last : ℕ) (rs : List Record) → shown_in mem n ≡ rs → list_all (sound_record last) rs ≡ true → in_order rs ≡ true → sound_table mem n last ≡ true
 sound_at mem n last rs shown sound order =
-    and_from (all (sound_record last) (shown_in mem n)) (in_order (shown_in mem n)) (ap (all (sound_record last)) shown ∙ sound) (ap in_order shown ∙ order)
+    and_from (list_all (sound_record last) (shown_in mem n)) (in_order (shown_in mem n)) (ap (list_all (sound_record last)) shown ∙ sound) (ap in_order shown ∙ order)
 
 -- The meaning.
 
@@ -69,16 +68,16 @@ zero_is r z =
     let front = and_parts (r.key == 0) (r.timestamp == 0) both.0 in
     λ i. record { key = eqb-true r.key 0 front.0 i; timestamp = eqb-true r.timestamp 0 front.1 i; value = eqb-true r.value 0 both.1 i }
 
-zeros_are : (rs : List Record) → all is_zero rs ≡ true → rs ≡ replicate (length rs) no_record
+zeros_are : (rs : List Record) → list_all is_zero rs ≡ true → rs ≡ replicate (length rs) no_record
 zeros_are [] z = refl
 zeros_are (r ∷ rs) z =
-    let parts = and_parts (is_zero r) (all is_zero rs) z in
+    let parts = and_parts (is_zero r) (list_all is_zero rs) z in
     λ i. zero_is r parts.0 i ∷ zeros_are rs parts.1 i
 
-keys_in : (last : ℕ) (rs : List Record) → all (sound_record last) rs ≡ true → AllByRecursion (λ r. is_key r.key ≡ true) rs
+keys_in : (last : ℕ) (rs : List Record) → list_all (sound_record last) rs ≡ true → AllByRecursion (λ r. is_key r.key ≡ true) rs
 keys_in last [] s = tt
 keys_in last (r ∷ rs) s =
-    let parts = and_parts (sound_record last r) (all (sound_record last) rs) s in
+    let parts = and_parts (sound_record last r) (list_all (sound_record last) rs) s in
     ((and_parts (is_key r.key) (nat_le r.timestamp last) parts.0).0, keys_in last rs parts.1)
 
 laid_out : (l : RecordSlice) (last : ℕ) → sound_table l.memory.now l.kept last ≡ true → is_table_size (length l.memory.now) ≡ true → LaidOut (table_meaning l.memory.now l.kept last) l.memory.now
@@ -92,7 +91,7 @@ laid_out l last s fit =
       front = take n mem;
       whole = sym (take-append-drop n mem) ∙ ap (λ xs. take n mem ++ xs) (zeros_are (drop n mem) (l.tidy fit) ∙ ap (λ k. replicate k no_record) long);
       ordered = ap in_order (sym shown) ∙ sound.order;
-      in_range = keys_in last (take n mem) (ap (all (sound_record last)) (sym shown) ∙ sound.records);
+      in_range = keys_in last (take n mem) (ap (list_all (sound_record last)) (sym shown) ∙ sound.records);
       versions = λ k. ap (of_key k) (sym shown);
     }
 
@@ -109,7 +108,7 @@ pub record Changed (t : Table) (l : RecordSlice) (last : ℕ) (m : Meaning) : Ty
 -- a table in fit memory that lists these records now, in as much room
 pub changed_to :
     (t : Table) (l : RecordSlice) (last : ℕ) (rs : List Record) (kept : ℕ → List Version) →
-    is_table_size (length t.list.memory.now) ≡ true → listing l ≡ with_records rs (listing t.list) → all (sound_record last) rs ≡ true → in_order rs ≡ true → ((k : ℕ) → of_key k rs ≡ kept k) →
+    is_table_size (length t.list.memory.now) ≡ true → listing l ≡ with_records rs (listing t.list) → list_all (sound_record last) rs ≡ true → in_order rs ≡ true → ((k : ℕ) → of_key k rs ≡ kept k) →
     Changed t l last (record { last = last; capacity = (meaning_of t).capacity; kept = kept })
 changed_to t l last rs kept fit is sound order each =
     let mem = l.memory.now in
@@ -130,7 +129,7 @@ ok_fits : (b : Bool) → Ok tt ≡ answer b → b ≡ true
 ok_fits true e = refl
 ok_fits false e = cc
 
-keyed : (last : ℕ) (rs : List Record) → all (sound_record last) rs ≡ true → all (λ r. is_key r.key) rs ≡ true
+keyed : (last : ℕ) (rs : List Record) → list_all (sound_record last) rs ≡ true → list_all (λ r. is_key r.key) rs ≡ true
 keyed last rs s = all_from (sound_record last) (λ r. is_key r.key) (λ r h. (and_parts (is_key r.key) (nat_le r.timestamp last) h).0) rs s
 
 drops_none : (e : ℕ → ℕ) (rs : List Record) → ((k : ℕ) → e k ≡ 0) → drop_firsts e rs ≡ rs
@@ -165,7 +164,7 @@ module _ (b : Table) (t : ℕ) (ws : List Write) (fit_ws : fit_writes ws ≡ tru
   sound_now : Sound mem b.list.kept b.last
   sound_now = sound_parts mem b.list.kept b.last b.sound
 
-  sound_after : all (sound_record t) (after_writes 16 t ws rs) ≡ true
+  sound_after : list_all (sound_record t) (after_writes 16 t ws rs) ≡ true
   sound_after = commit_sound 16 b.last t ws rs later (fit_rises ws fit_ws) sound_now.records
 
   order_after : in_order (after_writes 16 t ws rs) ≡ true
@@ -275,8 +274,8 @@ module _ (empty l : RecordSlice) (none : empty.kept ≡ 0) (fit : is_table_size 
 
 -- a table that shows the records of a new store
 module _ (mem : List Record) (n : ℕ) (shown : shown_in mem n ≡ first_records keys) where
-  pub new_sound : sound_table mem n 0 ≡ true
-  new_sound = sound_at mem n 0 (first_records keys) shown (first_sound 0) (first_order keys)
+  pub new_sound : (last : ℕ) → sound_table mem n last ≡ true
+  new_sound last = sound_at mem n last (first_records keys) shown (first_sound last) (first_order keys)
 
   pub new_meaning : (size : ℕ) → length mem ≡ size → table_meaning mem n 0 ≡ new_store (capacity_of size)
   new_meaning size long = meaning_at mem n 0 (capacity_of size) (first_records keys) (new_store 0).kept (ap capacity_of long) shown first_kept

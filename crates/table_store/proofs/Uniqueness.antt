@@ -1,8 +1,8 @@
 -- Records that hold the same versions of each key in the same order are the same: a meaning is laid out in one way only.
 use Rattle.std.proofs.Common.{◌≡◌, ℕ, ◌-◌, Bool, true, false, List, [], ◌∷◌, ◌++◌, length, replicate, sym, refl, ap, ◌∙◌, subst, ⊎_elim, arith}
+use Rattle.std.specs.List.{list_all}
 use Rattle.std.proofs.lemmas.Bool.{and_parts, cases_Bool, eqb-true, eq-eqb}
 use Rattle.std.proofs.lemmas.Bool.Decides.{nat_tests}
-use Rattle.snapshot.specs.Accounts.{all}
 use Rattle.store.specs.Meaning.{Meaning}
 use Rattle.store.specs.declared.version.Version.{Version}
 use Rattle.table_store.proofs.Layouts.{cons_yes, cons_no}
@@ -14,10 +14,10 @@ itself : (r : Record) → has_key r.key r ≡ true
 itself r = eq-eqb r.key r.key refl
 
 -- the first version of a key is that of a record, which passes every test that all records pass
-first_passes : (p : Record → Bool) (k : ℕ) (v : Version) (vs : List Version) (rs : List Record) → of_key k rs ≡ v ∷ vs → all p rs ≡ true → p (record_of k v.timestamp v.value) ≡ true
+first_passes : (p : Record → Bool) (k : ℕ) (v : Version) (vs : List Version) (rs : List Record) → of_key k rs ≡ v ∷ vs → list_all p rs ≡ true → p (record_of k v.timestamp v.value) ≡ true
 first_passes p k v vs [] is a = let z : ◌≡◌ {A = ℕ} 0 1 = cc in absurd (omega (arith, z))
 first_passes p k v vs (r ∷ rs) is a =
-    let parts = and_parts (p r) (all p rs) a in
+    let parts = and_parts (p r) (list_all p rs) a in
     ⊎_elim
     (λ here.
     let same : version_in r ≡ v = cc (cons_yes k r rs here) in
@@ -42,9 +42,9 @@ same_first x y xs ys ox oy same =
     let key = eqb-true y.key x.key here in
     λ i. record { key = sym key i; timestamp = (sym versions i).timestamp; value = (sym versions i).value })
     (λ other.
-    let y_first = first_passes (is_before y) x.key (version_in x) (of_key x.key xs) ys (sym (cons_no x.key y ys other) ∙ sym (same x.key) ∙ cons_yes x.key x xs (itself x)) (and_parts (all (is_before y) ys) (in_order ys) oy).0 in
+    let y_first = first_passes (is_before y) x.key (version_in x) (of_key x.key xs) ys (sym (cons_no x.key y ys other) ∙ sym (same x.key) ∙ cons_yes x.key x xs (itself x)) (and_parts (list_all (is_before y) ys) (in_order ys) oy).0 in
     let apart : has_key y.key x ≡ false = grind (arith, nat_tests) in
-    let x_first = first_passes (is_before x) y.key (version_in y) (of_key y.key ys) xs (sym (cons_no y.key x xs apart) ∙ same y.key ∙ cons_yes y.key y ys (itself y)) (and_parts (all (is_before x) xs) (in_order xs) ox).0 in
+    let x_first = first_passes (is_before x) y.key (version_in y) (of_key y.key ys) xs (sym (cons_no y.key x xs apart) ∙ same y.key ∙ cons_yes y.key y ys (itself y)) (and_parts (list_all (is_before x) xs) (in_order xs) ox).0 in
     absurd (not_both x y x_first y_first))
     (cases_Bool (has_key x.key y))
 
@@ -62,7 +62,7 @@ same_records [] (y ∷ ys) ox oy same = let z : ◌≡◌ {A = ℕ} 0 1 = cc (sa
 same_records (x ∷ xs) [] ox oy same = let z : ◌≡◌ {A = ℕ} 0 1 = cc (same x.key, cons_yes x.key x xs (itself x)) in absurd (omega (arith, z))
 same_records (x ∷ xs) (y ∷ ys) ox oy same =
     let first = same_first x y xs ys ox oy same in
-    let rest = same_records xs ys (and_parts (all (is_before x) xs) (in_order xs) ox).1 (and_parts (all (is_before y) ys) (in_order ys) oy).1 (same_rest x y xs ys first same) in
+    let rest = same_records xs ys (and_parts (list_all (is_before x) xs) (in_order xs) ox).1 (and_parts (list_all (is_before y) ys) (in_order ys) oy).1 (same_rest x y xs ys first same) in
     λ i. first i ∷ rest i
 
 pub one_layout : (m : Meaning) (mem other : List Record) → length other ≡ length mem → LaidOut m mem → LaidOut m other → other ≡ mem

@@ -1,7 +1,7 @@
 -- The memory of a table store: what it lists, what it means, and how it is laid out.
 use Rattle.std.specs.Prelude.{◌≡◌, ℕ, ◌-◌, ◌<◌, ◌≤◌, Bool, true, if◌then◌else◌, ◌&&◌, ◌||◌, List, [], ◌∷◌, ◌++◌, length, take, drop, replicate, Ok, Err, Result, ◌==◌, nat_le, nat_lt}
-use Rattle.std.specs.List.{AllByRecursion}
-use Rattle.snapshot.specs.Accounts.{all, rising_from}
+use Rattle.std.specs.List.{AllByRecursion, list_all}
+use Rattle.snapshot.specs.Accounts.{rising_from}
 use Rattle.snapshot.specs.Limits.{keys, least_records, most_records, is_key}
 use Rattle.snapshot.specs.declared.account.Write.{Write}
 use Rattle.snapshot.specs.declared.fault.Fault.{Fault}
@@ -31,7 +31,7 @@ is_zero r = r.key == 0 && r.timestamp == 0 && r.value == 0
 
 -- all that comes after them is zero
 abbrev pub zeros_after : List Record → ℕ → Bool
-zeros_after mem n = all is_zero (drop n mem)
+zeros_after mem n = list_all is_zero (drop n mem)
 
 -- What a table means.
 
@@ -59,7 +59,7 @@ is_before r q = nat_lt r.timestamp q.timestamp || (r.timestamp == q.timestamp &&
 
 abbrev pub in_order : List Record → Bool
 in_order [] = true
-in_order (r ∷ rs) = all (is_before r) rs && in_order rs
+in_order (r ∷ rs) = list_all (is_before r) rs && in_order rs
 
 -- of a key that there is, and not later than last
 abbrev pub sound_record : ℕ → Record → Bool
@@ -67,7 +67,7 @@ sound_record last r = is_key r.key && nat_le r.timestamp last
 
 -- what holds of every table: the records that it shows are sound and in order
 abbrev pub sound_table : List Record → ℕ → ℕ → Bool
-sound_table mem n last = all (sound_record last) (shown_in mem n) && in_order (shown_in mem n)
+sound_table mem n last = list_all (sound_record last) (shown_in mem n) && in_order (shown_in mem n)
 
 -- the memory holds the kept versions from the start, by timestamp, then key, and zeros after them
 pub record LaidOut (m : Meaning) (mem : List Record) : Type 0 where

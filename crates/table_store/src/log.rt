@@ -1,5 +1,5 @@
 // The rules for a list of records, oldest first, whatever memory holds it.
-ghost use Rattle.std.specs.Prelude.{◌≡◌, ℕ, ◌+◌, ◌-◌, length, map, nat_le, OnOk, OnErr};
+ghost use Rattle.std.specs.Prelude.{◌≡◌, ℕ, ◌-◌, ◌≤◌, length, map, OnOk, OnErr};
 ghost use Rattle.snapshot.specs.Limits.{keys};
 ghost use Rattle.store.specs.Meaning.{newest_at, outdated, written_to};
 ghost use Rattle.table_store.specs.PerKeys.{number_for, per_key};
@@ -83,7 +83,8 @@ fn outdated_versions(records: &[Record], horizon: u64) -> PerKey
 
 // How many records are left when each key drops its oldest ones, so many as are named for it.
 fn count_left(records: &[Record], mut to_drop: PerKey) -> usize
-    ensures { result ≡ length (drop_firsts (number_for to_drop) records.now) }
+    ensures value { result ≡ length (drop_firsts (number_for to_drop) records.now) }
+    ensures within { result ≤ length records.now }
 {
     let mut left = 0;
     for record in records {
@@ -127,13 +128,6 @@ pub(crate) fn start<L: RecordList>(log: &mut L)
     }
 }
 
-// Is there room for so many records that are left, and so many more?
-fn has_room(room: usize, left: usize, more: usize) -> bool
-    ensures { result ≡ nat_le (left + more) room }
-{
-    left <= room && more <= room - left
-}
-
 // Commits the update; where there is no room for it it is refused, and nothing changes.
 pub(crate) fn write_all<L: RecordList>(
     log: &mut L,
@@ -146,7 +140,7 @@ pub(crate) fn write_all<L: RecordList>(
 {
     let excess = excess_versions(log.records(), update.writes, depth);
     let left = count_left(log.records(), excess);
-    if !has_room(log.room(), left, update.writes.len()) {
+    if update.writes.len() > log.room() - left {
         return Err(Fault::unnamed(Refusal::CapacityExceeded, Layer::Store));
     }
     drop_oldest(log, excess);

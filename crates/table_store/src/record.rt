@@ -1,5 +1,5 @@
 // A record of one version, and lists of records by what can be done to them.
-ghost use Rattle.std.specs.Prelude.{◌≡◌};
+ghost use Rattle.std.specs.Prelude.{◌≡◌, ◌≤◌, length};
 ghost use Rattle.std.specs.Fn.{CalledAt};
 ghost use Rattle.std.specs.List.Retain.{IsFiltered};
 ghost use Rattle.table_store.specs.Records.{Listing, with_one_more};
@@ -39,4 +39,7 @@ pub(crate) trait RecordList {
     // Adds a record after the last; where there is no room, nothing changes.
     fn push(&mut self, new: Record)
         ensures { listing self.new ≡ with_one_more (listing self.old) new };
+
+    // no list has more records than there is room for
+    ghost within: { (list : Self) → length (listing list).records ≤ (listing list).room };
 }

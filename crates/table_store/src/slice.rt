@@ -39,7 +39,11 @@ impl<'a> RecordSlice<'a> {
 }
 
 impl RecordList for RecordSlice<'_> {
+    ghost use Rattle.std.proofs.Common.{arith, length-take};
+
     ghost listing = { λ s. listing_in s.memory.now s.kept };
+
+    ghost within = { λ s. Prim.omega (arith, length-take s.kept s.memory.now) };
 
     fn records(&self) -> &[Record] {
         &self.memory[..self.kept]

@@ -1,24 +1,10 @@
--- Fit memory lists the records of a new store; unfit memory is as it was.
-use Rattle.std.proofs.Common.{sym, ap, ◌∙◌}
-use Rattle.std.proofs.lemmas.Bool.{both_ways}
-use Rattle.table_store.proofs.Tabling.{new_shown, new_size, shown_unfit}
-use Rattle.table_store.specs.Tables.{is_table_size}
+-- Fit memory lists the records of a new store.
+use Rattle.std.proofs.Common.{sym, ◌∙◌}
+use Rattle.table_store.proofs.Tabling.{new_shown, new_size}
 use Rattle.table_store.proofs.as_store.first_list.Goals as goal
 
-pub returns-then-is_fit : goal.returns-then-is_fit
-returns-then-is_fit c =
-    let empty = c.new-list.ensures in
-    let fit = sym c.if-is_fit.ensures in
-    record {
-      shown = new_shown c.new-list.result c.start.new.log empty.empty fit c.start.ensures;
-      size = new_size c.new-list.result c.start.new.log empty.empty fit c.start.ensures ∙ empty.size;
-      alone = λ unfit. absurd (both_ways _ unfit (ap (λ n. is_table_size n) (sym empty.size) ∙ fit));
-    }
+pub returns-then-is_fit-clause-shown : goal.returns-then-is_fit-clause-shown
+returns-then-is_fit-clause-shown c = new_shown c.new-list.result c.start.new.log c.new-list.ensures.empty (sym c.if-is_fit.ensures) c.start.ensures
 
-pub returns-else-is_fit : goal.returns-else-is_fit
-returns-else-is_fit c =
-    record {
-      shown = shown_unfit c.new-list.result.memory.now c.new-list.result.kept (sym c.if-is_fit.ensures);
-      size = c.new-list.ensures.size;
-      alone = c.new-list.ensures.alone;
-    }
+pub returns-then-is_fit-clause-size : goal.returns-then-is_fit-clause-size
+returns-then-is_fit-clause-size c = new_size c.new-list.result c.start.new.log c.new-list.ensures.empty (sym c.if-is_fit.ensures) c.start.ensures ∙ c.new-list.ensures.size

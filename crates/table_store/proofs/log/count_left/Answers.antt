@@ -1,6 +1,6 @@
 -- Each record goes, or is one more that stays.
 use Rattle.std.proofs.Common.{sym, ◌∙◌, arith}
-use Rattle.table_store.proofs.Dropping.{counted_goes, counted_stays, counted_all}
+use Rattle.table_store.proofs.Dropping.{counted_goes, counted_stays}
 use Rattle.table_store.specs.PerKeys.{number_for}
 use Rattle.table_store.proofs.log.count_left.Goals as goal
 use Rattle.table_store.proofs.log.count_left.Goals.{then-not-take_one, else-not-take_one}
@@ -20,7 +20,3 @@ loop-record-preserved c =
           let step = counted_goes rs before after i c.loop-record-test.true c.take_one.ensures.after (sym answer ∙ w.if-not-take_one.false) in
           (omega (arith, c.loop-record.invariant.0, step, w.left-is), omega (arith, c.loop-record.invariant.1, w.left-is))
     ]
-
-pub returns : goal.returns
-returns c =
-    omega (arith, c.loop-record.invariant.0, counted_all c.args.records.now (number_for c.loop-record.to_drop) c.loop-record.record-index c.loop-record-test.false)

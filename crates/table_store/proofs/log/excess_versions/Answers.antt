@@ -1,15 +1,9 @@
 -- Each write sets its key's number.
-use Rattle.std.proofs.Common.{◌-◌, get_or, sym, refl, ap, ◌∙◌}
-use Rattle.std.proofs.lemmas.List.{take_all}
+use Rattle.std.proofs.Common.{◌-◌, get_or, ap, ◌∙◌}
 use Rattle.snapshot.specs.Accounts.{zero_write}
-use Rattle.store.specs.Meaning.{written_to}
-use Rattle.table_store.proofs.Counting.{excess_for, excess_more, none_yet, same_numbers}
+use Rattle.table_store.proofs.Counting.{excess_more}
 use Rattle.table_store.specs.PerKeys.{number_for, with}
-use Rattle.table_store.specs.Records.{excess, of_key}
 use Rattle.table_store.proofs.log.excess_versions.Goals as goal
-
-pub loop-write-init : goal.loop-write-init
-loop-write-init c = none_yet _ c.none-excess.ensures _ (λ k. refl)
 
 pub loop-write-preserved : goal.loop-write-preserved
 loop-write-preserved c =
@@ -20,10 +14,3 @@ loop-write-preserved c =
     (λ k. c.set.ensures k
     ∙ ap (λ n. with (number_for c.loop-write.excess) (get_or ws i zero_write).key n k)
     (c.saturating_sub.ensures ∙ ap (λ m. c.get-count.result - m) c.saturating_sub-others.ensures))
-
-pub returns : goal.returns
-returns c =
-    let rs = c.args.records.now in
-    let ws = c.args.writes.now in
-    same_numbers _ _ (excess_for c.args.depth ws rs) c.loop-write.invariant
-    (λ k. ap (λ xs. excess c.args.depth (written_to k xs) (of_key k rs)) (sym (take_all c.loop-write.write-index ws c.loop-write-test.false)))

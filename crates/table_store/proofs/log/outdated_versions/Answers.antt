@@ -1,15 +1,10 @@
 -- A record that is not above the horizon outdates all versions of its key before it.
-use Rattle.std.proofs.Common.{◌+◌, get_or, take, sym, refl, ap, subst, arith}
-use Rattle.std.proofs.lemmas.List.{take_all}
-use Rattle.store.specs.Meaning.{outdated}
-use Rattle.table_store.proofs.Counting.{Numbers, counted_le, count_more, outdated_in, outdated_set, outdated_same, none_yet, same_numbers}
-use Rattle.table_store.specs.Records.{no_record, of_key}
+use Rattle.std.proofs.Common.{◌+◌, get_or, take, sym, subst, arith}
+use Rattle.table_store.proofs.Counting.{Numbers, counted_le, count_more, outdated_in, outdated_set, outdated_same}
+use Rattle.table_store.specs.Records.{no_record}
 use Rattle.table_store.specs.declared.per_key.PerKey.{PerKey}
 use Rattle.table_store.proofs.log.outdated_versions.Goals as goal
 use Rattle.table_store.proofs.log.outdated_versions.Goals.{then-record-horizon, else-record-horizon}
-
-pub loop-record-init : goal.loop-record-init
-loop-record-init c = (none_yet _ c.none-counts.ensures _ (λ k. refl), none_yet _ c.none-older.ensures _ (λ k. refl))
 
 pub overflow_add-count : goal.overflow_add-count
 overflow_add-count c =
@@ -33,9 +28,3 @@ loop-record-preserved c =
             subst after (sym w.older-is) (outdated_same rs i lt h _ c.loop-record.invariant.1 w.if-record-horizon.false)
       ],
     )
-
-pub returns : goal.returns
-returns c =
-    let rs = c.args.records.now in
-    same_numbers _ _ (outdated_in c.args.horizon rs) c.loop-record.invariant.1
-    (λ k. ap (λ xs. outdated c.args.horizon (of_key k xs)) (sym (take_all c.loop-record.record-index rs c.loop-record-test.false)))

@@ -1,7 +1,7 @@
 -- Each turn adds the first record of one key more.
-use Rattle.std.proofs.Common.{◌≡◌, sym, ap, ◌∙◌, arith}
+use Rattle.std.proofs.Common.{sym, ap, ◌∙◌}
 use Rattle.table_store.proofs.Adding.{first_none, first_more}
-use Rattle.table_store.specs.Records.{first_records, record_of, with_all, with_one_more}
+use Rattle.table_store.specs.Records.{record_of, with_one_more}
 use Rattle.table_store.proofs.log.start.Goals as goal
 
 pub loop-key-init : goal.loop-key-init
@@ -11,8 +11,3 @@ pub loop-key-preserved : goal.loop-key-preserved
 loop-key-preserved g c =
     let k = c.loop-key.key in
     c.push.ensures ∙ ap (λ l. with_one_more l (record_of k 0 0)) c.loop-key.invariant ∙ sym (first_more k (g.L.RecordList.listing c.args.log.now))
-
-pub returns : goal.returns
-returns g c =
-    let all : c.loop-key.key ≡ 64 = omega (arith, c.loop-key-test.false, c.loop-key.auto.key-end) in
-    c.loop-key.invariant ∙ ap (λ n. with_all (first_records n) (g.L.RecordList.listing c.args.log.now)) all

@@ -1,22 +1,16 @@
--- Each record that stays moves to the front of the gap, and zeros stand where the others were.
-use Rattle.std.proofs.Common.{◌≡◌, ℕ, ◌+◌, ◌-◌, List, length, take, drop, replicate, ap, ◌∙◌, length-take, length-drop, arith, of_calls}
+-- Each record that stays moves to the front of the gap.
+use Rattle.std.proofs.Common.{◌≡◌, length, arith, of_calls}
 use Rattle.std.proofs.lemmas.Fn.{called_at}
 use Rattle.std.specs.Fn.{CalledAt}
-use Rattle.table_store.proofs.Compacting.{Moved, all_else, all_kept, none_moved, one_goes, one_stays}
-use Rattle.table_store.specs.Records.{no_record}
-use Rattle.table_store.specs.declared.record.Record.{Record}
+use Rattle.table_store.proofs.Compacting.{all_kept, one_goes, one_stays}
 use Rattle.table_store.proofs.slice.compact.Goals as goal
 use Rattle.table_store.proofs.slice.compact.Goals.{then-keep, else-keep}
-
-pub loop-place-init : goal.loop-place-init
-loop-place-init g c = (c.requires, none_moved _ c.args.keep c.args.records.now)
 
 pub loop-place-preserved : goal.loop-place-preserved
 loop-place-preserved g c =
     let R = CalledAt g.F.FnMut in
     let at = c.loop-place in
     let rs = c.args.records.now in
-    let Kept : List Record → ℕ → Type 0 = λ xs left. Moved R c.args.keep rs c.keep.new.self xs left (at.place + 1) in
     let long : length at.records ≡ length rs = at.auto.records in (
       search of_calls,
       elim c.if-keep.branch [
@@ -28,16 +22,4 @@ loop-place-preserved g c =
 pub returns-clause-kept : goal.returns-clause-kept
 returns-clause-kept g c =
     let at = c.loop-place in
-    all_kept (CalledAt g.F.FnMut) c.args.keep c.args.records.now at.keep at.records at.left at.place at.invariant.1 at.auto.records c.fill.new.self c.loop-place-test.false
-    (omega (arith, at.invariant.1.within, at.auto.place-end))
-
-pub returns-clause-zeros : goal.returns-clause-zeros
-returns-clause-zeros g c =
-    let at = c.loop-place in
-    let rs = c.args.records.now in
-    let others : length (take (length at.records - at.left) (drop at.left at.records)) ≡ length rs - at.left =
-    omega (arith, length-take (length at.records - at.left) (drop at.left at.records), length-drop at.left at.records, at.auto.records) in
-    all_else (CalledAt g.F.FnMut) c.args.keep rs at.keep at.records at.left at.place at.invariant.1 at.auto.records c.fill.new.self c.loop-place-test.false
-    (omega (arith, at.invariant.1.within, at.auto.place-end))
-    ∙ c.fill.ensures.after (λ y e. e)
-    ∙ ap (λ n. replicate n no_record) others
+    all_kept (CalledAt g.F.FnMut) c.args.keep c.args.records.now at.keep at.records at.left at.place at.invariant.1 at.auto.records c.fill.new.self c.loop-place-test.false (omega (arith, at.invariant.1.within, at.auto.place-end))

@@ -1,6 +1,6 @@
--- Where there is room the record stands behind the others; where there is none nothing changes.
+-- With one record more in the list the zeros after it begin one later.
 use Rattle.std.proofs.Common.{arith}
-use Rattle.table_store.proofs.Memory.{push_full, push_listing, zeros_after_more}
+use Rattle.table_store.proofs.Memory.{zeros_after_more}
 use Rattle.table_store.proofs.slice.RecordSliceRecordList.push.Goals as goal
 
 pub invariant_of-self : goal.invariant_of-self
@@ -10,13 +10,3 @@ invariant_of-self c =
       within = omega (arith, c.room.ensures, c.if-end-room.true);
       tidy = λ fit. zeros_after_more s.memory.now s.kept (s.tidy fit);
     }
-
-pub returns-then-end-room : goal.returns-then-end-room
-returns-then-end-room c =
-    let s = c.args.self.now in
-    push_listing s.memory.now s.kept c.args.new (omega (arith, c.room.ensures, c.if-end-room.true))
-
-pub returns-else-end-room : goal.returns-else-end-room
-returns-else-end-room c =
-    let s = c.args.self.now in
-    push_full s.memory.now s.kept c.args.new s.within (omega (arith, c.room.ensures, c.if-end-room.false))

@@ -1,8 +1,5 @@
--- The kept records are at the front of the list's part of the memory, and zeros stand where the others were.
-use Rattle.std.proofs.Common.{sym, subst}
-use Rattle.std.specs.Fn.{CalledAt}
-use Rattle.std.specs.List.Retain.{IsFiltered}
-use Rattle.table_store.proofs.Memory.{retain_front, retain_room, retain_within, retain_zeros}
+-- Zeros stand where the records were that did not stay.
+use Rattle.table_store.proofs.Memory.{retain_within, retain_zeros}
 use Rattle.table_store.proofs.slice.RecordSliceRecordList.retain.Goals as goal
 
 pub invariant_of-self : goal.invariant_of-self
@@ -14,15 +11,4 @@ invariant_of-self g c =
     record {
       within = retain_within s.memory.now xs s.kept c.compact-self.result long ensures.within s.within;
       tidy = retain_zeros s.memory.now xs s.kept c.compact-self.result long ensures.within s.within _ ensures.zeros s.tidy;
-    }
-
-pub returns : goal.returns
-returns g c =
-    let s = c.args.self.now in
-    let xs = c.compact-self.new.records in
-    let ensures = c.compact-self.ensures in
-    let long = c.compact-self.auto.records in
-    record {
-      kept = subst (IsFiltered (CalledAt g.F.FnMut) c.args.keep _) (sym (retain_front s.memory.now xs s.kept c.compact-self.result long ensures.within s.within)) ensures.kept;
-      room = retain_room s.memory.now xs s.kept c.compact-self.result long ensures.within s.within;
     }

@@ -5,14 +5,15 @@ use Rattle.table_store.proofs.table.Table.new.Goals as goal
 pub invariant_of-result : goal.invariant_of-result
 invariant_of-result c =
     let list = c.first_list-list.result in
-    record { sound = new_sound list.memory.now list.kept c.first_list-list.ensures.shown }
+    record { sound = new_sound list.memory.now list.kept c.first_list-list.ensures.shown _ }
 
-pub returns : goal.returns
-returns c =
+pub returns-clause-meaning : goal.returns-clause-meaning
+returns-clause-meaning c =
     let list = c.first_list-list.result in
     let ensures = c.first_list-list.ensures in
-    record {
-      meaning = new_meaning list.memory.now list.kept ensures.shown _ ensures.size;
-      laid = held list 0 (new_sound list.memory.now list.kept ensures.shown);
-      alone = ensures.alone;
-    }
+    new_meaning list.memory.now list.kept ensures.shown _ ensures.size
+
+pub returns-clause-laid : goal.returns-clause-laid
+returns-clause-laid c =
+    let list = c.first_list-list.result in
+    held list _ (new_sound list.memory.now list.kept c.first_list-list.ensures.shown _)

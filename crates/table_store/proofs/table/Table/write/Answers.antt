@@ -1,5 +1,5 @@
 -- Writes that were taken leave the list that the rules draw, in memory that is fit; without room the table is as it was.
-use Rattle.std.proofs.Common.{◌≡◌, Err, ap, ◌∙◌, refl, rules}
+use Rattle.std.proofs.Common.{◌≡◌, Err, ◌∙◌, refl, rules}
 use Rattle.table_store.proofs.Sameness.{same_on_err}
 use Rattle.table_store.proofs.Tabling.{commit_room, held, table_write, write_alone}
 use Rattle.table_store.proofs.table.Table.write.Goals as goal
@@ -13,25 +13,23 @@ pub returns-in_err-write_all-clause-unchanged : goal.returns-in_err-write_all-cl
 returns-in_err-write_all-clause-unchanged c =
     same_on_err c.from_residual.result _ c.args.self.now c.in_err-write_all.ensures.unchanged refl
 
-pub returns-in_err-write_all-clause-alone : goal.returns-in_err-write_all-clause-alone
-returns-in_err-write_all-clause-alone c = λ _. ap (λ l. l.memory.now) c.in_err-write_all.ensures.unchanged
-
 pub invariant_of-self-2 : goal.invariant_of-self-2
 invariant_of-self-2 c =
     let ok = c.in_ok-write_all.ensures in
     record { sound = (table_write c.args.self.now c.args.update.timestamp c.args.update.writes.now c.args.update.fit c.requires ok.answer c.write_all.new.log ok.after).sound }
 
-pub returns : goal.returns
-returns c =
-    let b = c.args.self.now in
-    let t = c.args.update.timestamp in
-    let ws = c.args.update.writes.now in
+pub returns-clause-answer : goal.returns-clause-answer
+returns-clause-answer c = c.in_ok-write_all.ensures.answer ∙ commit_room c.args.self.now c.args.update.timestamp c.args.update.writes.now c.args.update.fit c.requires
+
+pub returns-clause-after : goal.returns-clause-after
+returns-clause-after c =
     let ok = c.in_ok-write_all.ensures in
-    let changed = table_write b t ws c.args.update.fit c.requires ok.answer c.write_all.new.log ok.after in
-    record {
-      answer = ok.answer ∙ commit_room b t ws c.args.update.fit c.requires;
-      after = changed.meaning;
-      unchanged = tt;
-      laid = held c.write_all.new.log t changed.sound;
-      alone = λ unfit. absurd (write_alone b t ws c.args.update.fit c.requires ok.answer unfit);
-    }
+    (table_write c.args.self.now c.args.update.timestamp c.args.update.writes.now c.args.update.fit c.requires ok.answer c.write_all.new.log ok.after).meaning
+
+pub returns-clause-laid : goal.returns-clause-laid
+returns-clause-laid c =
+    let ok = c.in_ok-write_all.ensures in
+    held c.write_all.new.log c.args.update.timestamp (table_write c.args.self.now c.args.update.timestamp c.args.update.writes.now c.args.update.fit c.requires ok.answer c.write_all.new.log ok.after).sound
+
+pub returns-clause-alone : goal.returns-clause-alone
+returns-clause-alone c unfit = absurd (write_alone c.args.self.now c.args.update.timestamp c.args.update.writes.now c.args.update.fit c.requires c.in_ok-write_all.ensures.answer unfit)
