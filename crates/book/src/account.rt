@@ -13,7 +13,7 @@ use snapshot::writes::are_rising;
 
 // The account of a committed chain: its final interval, its timestamp (0 if nothing was written), its readings in order,
 // and its writes.
-#[derive(Clone, Copy)]
+#[derive(Clone, Copy, PartialEq, Eq, Debug)]
 pub struct Account<'a> {
     pub interval: Interval,
     pub timestamp: u64,
