@@ -1,5 +1,5 @@
 pub mod Changes
-pub mod Tests
+pub mod Judging
 pub mod Placing
 pub mod Packing
 pub mod Parts

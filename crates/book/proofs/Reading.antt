@@ -8,6 +8,7 @@ use Rattle.snapshot.specs.declared.account.ChainReading.{ChainReading}
 use Rattle.snapshot.specs.declared.account.Write.{Write}
 use Rattle.snapshot.specs.declared.fault.Refusal.{Refusal}
 use Rattle.book.specs.Bytes.{overwritten, records_from}
+use Rattle.book.specs.Calls.{faulted, front_for}
 use Rattle.book.specs.Format.{account_from, bytes_of, counts_in, framed, front_account, lawful_only, size_of}
 use Rattle.book.specs.Theorems.{Accepted, IsWritten}
 use Rattle.book.specs.declared.reader.AccountAt.{AccountAt}
@@ -37,6 +38,11 @@ pub accepted_at : (book : List ℕ) → ((i : ℕ) → get_or book i 0 < 256) �
 accepted_at book small start a front =
     let bytes = All-from_get_or (λ b. b < 256) book 0 (λ i _. small i) in
     accepted_is_written (drop start book) (All-take (λ b. b < 256) _ _ (All-drop (λ b. b < 256) start book bytes)) a front
+
+-- an account that is found is what is read where the lists have room for it
+pub found_is_read : (start n m : ℕ) (a : Account) (front : Result Account Refusal) → Ok a ≡ faulted start front → length a.readings ≤ n → length a.writes ≤ m → front_for n m front ≡ Ok a
+found_is_read start n m a (Ok b) e rs ws = let same : b ≡ a = cc in rw same (grind (arith, nat_tests))
+found_is_read start n m a (Err x) e rs ws = absurd cc
 
 -- what is answered and filled in tells the account that is written there
 pub written_accepted : (book : List ℕ) (start : ℕ) (a : Account) → IsWritten (drop start book) a → (at : AccountAt) → at.head ≡ head_of a → at.end ≡ start + length (bytes_of a) → (rs : List ChainReading) (ws : List Write) → Accepted book start at (overwritten a.readings rs) (overwritten a.writes ws)

@@ -1,15 +1,19 @@
-// An account as a caller has it, with its two lists.
-ghost use Rattle.std.specs.Prelude.{◌≡◌, true, length};
-ghost use Rattle.snapshot.specs.Accounts.{head_of, lawful};
-ghost use Rattle.book.specs.Format.{bytes_of, told};
+// An account as a caller has it, and whether it is lawful: the rules that its numbers, readings and writes keep.
+ghost use Rattle.std.specs.Prelude.{◌≡◌, ◌^◌, ◌<◌, true, ◌&&◌, nat_lt};
+ghost use Rattle.std.specs.List.{AllByRecursion};
+ghost use Rattle.snapshot.specs.Accounts.{Agrees, agreed_ends, all, few_enough, lawful, sound_reading, sound_timestamp, greatest_timestamp, least_promise};
+ghost use Rattle.snapshot.specs.Intervals.{from_to};
+ghost use Rattle.book.specs.Theorems.{ValuesFit};
+ghost use Rattle.book.specs.Format.{told};
 
-use crate::packed::account_size;
-use snapshot::account::{AccountHead, ChainReading, Write};
+use snapshot::account::{ChainReading, Write};
 use snapshot::interval::Interval;
+use snapshot::limits::{CHAIN_READINGS, OPEN_END, WRITE_KEYS, is_key, is_timestamp, is_worker};
+use snapshot::writes::are_rising;
 
 // The account of a committed chain: its final interval, its timestamp (0 if nothing was written), its readings in order,
 // and its writes.
-#[derive(Clone, Copy)]
+#[derive(Clone, Copy, PartialEq, Eq, Debug)]
 pub struct Account<'a> {
     pub interval: Interval,
     pub timestamp: u64,
@@ -18,24 +22,76 @@ pub struct Account<'a> {
 }
 
 impl Account<'_> {
-    // The five numbers.
-    pub(crate) fn head(&self) -> AccountHead
-        ensures { result ≡ head_of (told self.now) }
+    // Is the account lawful?
+    pub fn is_lawful(&self) -> bool
+        ensures value { result ≡ lawful (told self.now) }
+        ensures means { result ≡ true → Agrees (told self.now) }
+        ensures fits { result ≡ true → ValuesFit (told self.now) }
     {
-        AccountHead {
-            interval: self.interval,
-            timestamp: self.timestamp,
-            readings: self.readings.len(),
-            writes: self.writes.len(),
-        }
+        // `&` has no branch: every rule is looked at.
+        self.is_small()
+            & are_sound(self.readings)
+            & are_rising(self.writes)
+            & self.is_agreed()
+            & self.has_sound_timestamp()
     }
 
-    // How many bytes the account has.
-    #[tactic(auto, using(crate::proofs::RoundTrip::takes_its_size))]
-    pub(crate) fn size(&self) -> usize
-        requires { lawful (told self.now) ≡ true }
-        ensures { result ≡ length (bytes_of (told self.now)) }
+    fn is_small(&self) -> bool
+        ensures { result ≡ few_enough self.now.readings.now self.now.writes.now }
     {
-        account_size(self.readings.len(), self.writes.len())
+        self.readings.len() <= CHAIN_READINGS && self.writes.len() <= WRITE_KEYS
     }
+
+    // Does the interval go from the greatest timestamp to the least promise, and is it not empty?
+    fn is_agreed(&self) -> bool
+        ensures { result ≡ agreed_ends self.now.interval.low self.now.interval.high self.now.readings.now }
+    {
+        self.interval == agreed_interval(self.readings) && self.interval.low <= self.interval.high
+    }
+
+    // Is the timestamp 0 without writes, and else a commit's and later than every promise?
+    fn has_sound_timestamp(&self) -> bool
+        ensures { result ≡ sound_timestamp self.now.timestamp self.now.readings.now self.now.writes.now }
+    {
+        if self.writes.is_empty() {
+            self.timestamp == 0
+        } else {
+            is_timestamp(self.timestamp) && is_after_all(self.timestamp, self.readings)
+        }
+    }
+}
+
+// Is each reading in range: worker, key, and timestamp up to a promise before the open end?
+fn are_sound(readings: &[ChainReading]) -> bool
+    ensures value { result ≡ all sound_reading readings.now }
+    ensures fits { result ≡ true → AllByRecursion (λ x. x.reading.value < 2 ^ 32) readings.now }
+{
+    readings.iter().all(|reading| is_sound(*reading))
+}
+
+fn is_sound(made: ChainReading) -> bool
+    ensures value { result ≡ sound_reading made }
+    ensures fits { made.reading.value < 2 ^ 32 }
+{
+    is_worker(made.worker)
+        && is_key(made.key)
+        && made.reading.timestamp <= made.reading.promise
+        && made.reading.promise < OPEN_END
+}
+
+// From the greatest timestamp to the least promise; without readings, all times.
+fn agreed_interval(readings: &[ChainReading]) -> Interval
+    ensures { result ≡ from_to (greatest_timestamp readings.now) (least_promise readings.now) }
+{
+    readings.iter().fold(
+        Interval::ALL_TIMES,
+        |agreed, made| agreed.narrow(made.reading),
+    )
+}
+
+// Is the timestamp later than every promise?
+fn is_after_all(timestamp: u64, readings: &[ChainReading]) -> bool
+    ensures { result ≡ all (λ x. nat_lt x.reading.promise timestamp) readings.now }
+{
+    readings.iter().all(|made| made.reading.promise < timestamp)
 }

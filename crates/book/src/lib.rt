@@ -2,7 +2,6 @@
 #![tactic(auto)]
 
 pub mod account;
-mod lawful;
 pub mod listing;
 mod packed;
 pub mod reader;

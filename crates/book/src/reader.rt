@@ -32,26 +32,24 @@ pub(crate) struct Counts {
     writes: usize,
 }
 
-// An account with memory of its own: the first elements of its two lists, as many as the counts say.
+// An account with memory of its own: the first elements of its two lists, as many as the head says.
 #[derive(Drop)]
 pub(crate) struct Stored {
-    interval: Interval,
-    timestamp: u64,
+    head: AccountHead,
     readings: [ChainReading; CHAIN_READINGS],
     writes: [Write; WRITE_KEYS],
-    counts: Counts,
 }
 
 impl Model for Stored {
-    ghost use Rattle.std.specs.Prelude.{◌≤◌, take};
-    ghost use Rattle.snapshot.specs.Accounts.{Account};
+    ghost use Rattle.std.specs.Prelude.{◌≤◌};
+    ghost use Rattle.snapshot.specs.Accounts.{Account, account_of};
     ghost use Rattle.snapshot.specs.Limits.{chain_readings, write_keys};
 
     ghost Value = { Account };
 
-    ghost view = { λ s. record { low = s.interval.low; high = s.interval.high; timestamp = s.timestamp; readings = take s.counts.readings s.readings; writes = take s.counts.writes s.writes } };
+    ghost view = { λ s. account_of s.head s.readings s.writes };
 
-    ghost invariant = { λ s. (s.counts.readings ≤ chain_readings) × (s.counts.writes ≤ write_keys) };
+    ghost invariant = { λ s. (s.head.readings ≤ chain_readings) × (s.head.writes ≤ write_keys) };
 }
 
 impl Stored {
@@ -59,16 +57,16 @@ impl Stored {
         ensures { told result ≡ self.now }
     {
         Account {
-            interval: self.interval,
-            timestamp: self.timestamp,
-            readings: &self.readings[..self.counts.readings],
-            writes: &self.writes[..self.counts.writes],
+            interval: self.head.interval,
+            timestamp: self.head.timestamp,
+            readings: &self.readings[..self.head.readings],
+            writes: &self.writes[..self.head.writes],
         }
     }
 }
 
 impl Account<'_> {
-    // The five numbers, and the place after the bytes of the account where they begin at this one.
+    // The five numbers, and the place after the account's bytes where they begin at this one.
     pub(crate) fn located(&self, start: usize) -> AccountAt
         requires lawfully { lawful (told self.now) ≡ true }
         requires fits { start + length (bytes_of (told self.now)) < 2 ^ 64 }
@@ -76,7 +74,12 @@ impl Account<'_> {
         ensures end { result.end ≡ start + length (bytes_of (told self.now)) }
     {
         AccountAt {
-            head: self.head(),
+            head: AccountHead {
+                interval: self.interval,
+                timestamp: self.timestamp,
+                readings: self.readings.len(),
+                writes: self.writes.len(),
+            },
             end: start + self.size(),
         }
     }
@@ -167,14 +170,17 @@ fn decode(bytes: &[u8], counts: Counts) -> Stored
     let behind = writes_place(counts.readings);
     unpack_all(&bytes[behind..], &mut writes[..counts.writes]);
     Stored {
-        interval: Interval {
-            low: BigEndian::read_u64(&bytes[4..]),
-            high: BigEndian::read_u64(&bytes[12..]),
+        head: AccountHead {
+            interval: Interval {
+                low: BigEndian::read_u64(&bytes[4..]),
+                high: BigEndian::read_u64(&bytes[12..]),
+            },
+            timestamp: BigEndian::read_u64(&bytes[20..]),
+            readings: counts.readings,
+            writes: counts.writes,
         },
-        timestamp: BigEndian::read_u64(&bytes[20..]),
         readings,
         writes,
-        counts,
     }
 }
 

@@ -7,7 +7,7 @@ ghost use Rattle.book.specs.Format.{bytes_of, head_bytes, head_size, told};
 ghost use Rattle.book.specs.Theorems.{ReadsBackAnywhere};
 
 use crate::account::Account;
-use crate::packed::{HEAD_SIZE, pack_all, writes_place};
+use crate::packed::{HEAD_SIZE, account_size, pack_all, writes_place};
 use crate::sum::last_byte;
 use byteorder::{BigEndian, ByteOrder};
 use snapshot::fault::{BookFault, Refusal};
@@ -32,6 +32,15 @@ impl Account<'_> {
         }
         self.put(buffer);
         Ok(size)
+    }
+
+    // How many bytes the account has.
+    #[tactic(auto, using(crate::proofs::RoundTrip::takes_its_size))]
+    pub(crate) fn size(&self) -> usize
+        requires { lawful (told self.now) ≡ true }
+        ensures { result ≡ length (bytes_of (told self.now)) }
+    {
+        account_size(self.readings.len(), self.writes.len())
     }
 
     // Puts the account's bytes to the start of the buffer.

@@ -1,13 +1,26 @@
--- An accepted account is the one that stands at that place.
+-- The account that is found is what is read, and it stands at that place.
+use Rattle.std.proofs.Common.{◌≡◌, length, Ok, sym, ap, ◌∙◌, arith}
+use Rattle.book.specs.Bytes.{overwritten}
+use Rattle.book.specs.Calls.{faulted, located, read_at, readings_of, writes_of}
 use Rattle.book.specs.Format.{told}
-use Rattle.book.proofs.Reading.{written_accepted}
+use Rattle.book.proofs.Reading.{found_is_read, written_accepted}
 use Rattle.book.proofs.reader.read_account.Goals as goal
 
-pub returns-clause-written : goal.returns-clause-written
-returns-clause-written c =
+pub returns : goal.returns
+returns c =
+    let book = c.args.book.now in
+    let start = c.args.start in
+    let rs = c.args.readings.now in
+    let ws = c.args.writes.now in
     let a = told c.account-account.result in
+    let found = rw (← c.account-account.ensures) at c.in_ok-stored.ensures.value in
     let written = rw (← c.account-account.ensures) at c.in_ok-stored.ensures.written in
-    rw (c.fill.ensures, c.fill-2.ensures)
-    (written_accepted c.args.book.now c.args.start a written c.located.result c.located.ensures.head c.located.ensures.end
-    c.args.readings.now
-    c.args.writes.now)
+    let read : read_at book start (length rs) (length ws) ≡ Ok a = found_is_read start _ _ a _ found (omega arith) (omega arith) in
+    record {
+      value = (λ i. Ok (record { head = c.located.ensures.head i; end = c.located.ensures.end i }))
+          ∙ sym (ap (λ r. faulted start (located start r)) read);
+      readings = c.fill.ensures ∙ sym (ap (λ r. overwritten (readings_of r) rs) read);
+      writes = c.fill-2.ensures ∙ sym (ap (λ r. overwritten (writes_of r) ws) read);
+      written = rw (c.fill.ensures, c.fill-2.ensures)
+          (written_accepted book start a written c.located.result c.located.ensures.head c.located.ensures.end rs ws);
+    }

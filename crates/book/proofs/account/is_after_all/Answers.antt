@@ -2,8 +2,8 @@
 use Rattle.std.proofs.Common.{nat_lt, ◌∙◌, rules, tests}
 use Rattle.std.proofs.lemmas.Iterator.{YieldsList-from_slice}
 use Rattle.std.proofs.lemmas.Iterator.Search.{all_from_yields_List}
-use Rattle.book.proofs.Tests.{all_is_all}
-use Rattle.book.proofs.lawful.is_after_all.Goals as goal
+use Rattle.book.proofs.Judging.{all_is_all}
+use Rattle.book.proofs.account.is_after_all.Goals as goal
 
 pub returns : goal.returns
 returns c =

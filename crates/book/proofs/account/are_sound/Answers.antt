@@ -2,8 +2,8 @@
 use Rattle.std.proofs.Common.{◌≡◌, ◌^◌, ◌<◌, true, false, rules, tests}
 use Rattle.std.proofs.lemmas.Iterator.{YieldsList-from_slice, cases_from_all}
 use Rattle.snapshot.specs.Accounts.{sound_reading}
-use Rattle.book.proofs.Tests.{all_tells}
-use Rattle.book.proofs.lawful.are_sound.Goals as goal
+use Rattle.book.proofs.Judging.{all_tells}
+use Rattle.book.proofs.account.are_sound.Goals as goal
 
 pub returns : goal.returns
 returns c =

@@ -1,8 +1,8 @@
 -- One reading more is one narrowing more.
 use Rattle.std.proofs.Common.{◌≡◌, refl, subst, rules}
 use Rattle.std.proofs.lemmas.Fn.{fold_over, slice_gives, fronts}
-use Rattle.book.proofs.Tests.{agreed, agreed_more}
-use Rattle.book.proofs.lawful.agreed_interval.Goals as goal
+use Rattle.book.proofs.Judging.{agreed, agreed_more}
+use Rattle.book.proofs.account.agreed_interval.Goals as goal
 
 pub returns : goal.returns
 returns c =
