@@ -3,9 +3,9 @@ use Rattle.std.proofs.Common.{◌≡◌, ℕ, ◌+◌, ◌-◌, ◌*◌, ◌^◌
 use Rattle.std.proofs.lemmas.List.{get_or_at, take_at, take_more, drop_at, drop-drop}
 use Rattle.std.proofs.lemmas.Bool.{and_parts}
 use Rattle.std.proofs.lemmas.Bool.Decides.{nat_tests}
-use Rattle.std.specs.List.{flat_map, AllByRecursion}
+use Rattle.std.specs.List.{flat_map, AllByRecursion, list_all}
 use Rattle.std.specs.Int.Digits.{AllBelowBase}
-use Rattle.snapshot.specs.Accounts.{Account, lawful, all, sound_reading, sound_timestamp}
+use Rattle.snapshot.specs.Accounts.{Account, lawful, sound_reading, sound_timestamp}
 use Rattle.snapshot.specs.Limits.{open_end, chain_readings, write_keys}
 use Rattle.snapshot.specs.declared.account.ChainReading.{ChainReading}
 use Rattle.snapshot.specs.declared.account.Write.{Write}
@@ -60,7 +60,7 @@ least_le : (p : ℕ) (rs : List ChainReading) → fold (λ a r. min a r.reading.
 least_le p [] = omega arith
 least_le p (r ∷ rs) = omega (arith, least_le (min p r.reading.promise) rs)
 
-held : (rs : List ChainReading) → all sound_reading rs ≡ true → AllByRecursion (λ r. r.reading.value < 2 ^ 32) rs → AllByRecursion Held rs
+held : (rs : List ChainReading) → list_all sound_reading rs ≡ true → AllByRecursion (λ r. r.reading.value < 2 ^ 32) rs → AllByRecursion Held rs
 held [] sound fit = tt
 held (r ∷ rs) sound fit = ((fit.0, grind (arith, nat_tests), grind (arith, nat_tests)), held rs (and_parts _ _ sound).1 fit.1)
 
@@ -74,7 +74,7 @@ pub record Bounds (a : Account) : Type 0 where
   low : a.low < 2 ^ 64
   high : a.high < 2 ^ 64
   timestamp : a.timestamp < 2 ^ 64
-  sound : all sound_reading a.readings ≡ true
+  sound : list_all sound_reading a.readings ≡ true
 
 pub bounds : (a : Account) → lawful a ≡ true → Bounds a
 bounds a law =

@@ -1,7 +1,7 @@
 // An account as a caller has it, and whether it is lawful: the rules that its numbers, readings and writes keep.
 ghost use Rattle.std.specs.Prelude.{◌≡◌, ◌^◌, ◌<◌, true, ◌&&◌, nat_lt};
-ghost use Rattle.std.specs.List.{AllByRecursion};
-ghost use Rattle.snapshot.specs.Accounts.{Agrees, agreed_ends, all, few_enough, lawful, sound_reading, sound_timestamp, greatest_timestamp, least_promise};
+ghost use Rattle.std.specs.List.{AllByRecursion, list_all};
+ghost use Rattle.snapshot.specs.Accounts.{Agrees, agreed_ends, few_enough, lawful, sound_reading, sound_timestamp, greatest_timestamp, least_promise};
 ghost use Rattle.snapshot.specs.Intervals.{from_to};
 ghost use Rattle.book.specs.Theorems.{ValuesFit};
 ghost use Rattle.book.specs.Format.{told};
@@ -63,7 +63,7 @@ impl Account<'_> {
 
 // Is each reading in range: worker, key, and timestamp up to a promise before the open end?
 fn are_sound(readings: &[ChainReading]) -> bool
-    ensures value { result ≡ all sound_reading readings.now }
+    ensures value { result ≡ list_all sound_reading readings.now }
     ensures fits { result ≡ true → AllByRecursion (λ x. x.reading.value < 2 ^ 32) readings.now }
 {
     readings.iter().all(|reading| is_sound(*reading))
@@ -91,7 +91,7 @@ fn agreed_interval(readings: &[ChainReading]) -> Interval
 
 // Is the timestamp later than every promise?
 fn is_after_all(timestamp: u64, readings: &[ChainReading]) -> bool
-    ensures { result ≡ all (λ x. nat_lt x.reading.promise timestamp) readings.now }
+    ensures { result ≡ list_all (λ x. nat_lt x.reading.promise timestamp) readings.now }
 {
     readings.iter().all(|made| made.reading.promise < timestamp)
 }

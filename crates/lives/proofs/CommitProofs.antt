@@ -2,12 +2,12 @@
 -- reads, each of which is backed by a true reading that covers the account's interval.
 use Rattle.std.proofs.Common.{◌≡◌, ℕ, zero, suc, ◌<◌, ◌≤◌, min, max, Bool, true, not, ◌||◌, eqb, ltb, List, [], ◌∷◌, ◌++◌, map, length, IfSome, Some, None, Ok, Err, fold, Option, Result, sym, refl, ap, ◌∙◌, subst, ⊎_elim, arith}
 use mathlib.Core.Path.{fun_ext}
-use Rattle.std.specs.List.{AllByRecursion}
+use Rattle.std.specs.List.{AllByRecursion, list_all}
 use Rattle.std.proofs.ByRecursion.{all-has, All-map, All-weaker}
 use Rattle.std.proofs.lemmas.List.{append-nil, length-map}
 use Rattle.std.proofs.lemmas.Bool.{and_parts, and_from, cases_eq, eq-eqb, le-leb, lt-ltb, ltb-true}
 use Rattle.std.proofs.lemmas.Bool.Decides.{nat_tests}
-use Rattle.snapshot.specs.Accounts.{Account, all, sound_reading, greatest_timestamp, least_promise, rising_from, sound_timestamp, few_enough, agreed_ends, lawful}
+use Rattle.snapshot.specs.Accounts.{Account, sound_reading, greatest_timestamp, least_promise, rising_from, sound_timestamp, few_enough, agreed_ends, lawful}
 use Rattle.snapshot.specs.Limits.{open_end, is_key, is_timestamp}
 use Rattle.snapshot.specs.Limits as limit
 use Rattle.snapshot.specs.declared.account.ChainReading.{ChainReading}
@@ -54,7 +54,7 @@ only_one l states (suc n) j leg only lt e =
 
 -- Tests of every reading.
 
-all_pass : {X : Type 0} (test : X → Bool) (xs : List X) → AllByRecursion (λ x. test x ≡ true) xs → all test xs ≡ true
+all_pass : {X : Type 0} (test : X → Bool) (xs : List X) → AllByRecursion (λ x. test x ≡ true) xs → list_all test xs ≡ true
 all_pass test [] each = refl
 all_pass test (x ∷ xs) each = and_from _ _ each.0 (all_pass test xs each.1)
 
@@ -101,7 +101,7 @@ module _
         let high : leg.interval.high ≡ least_promise made = omega (arith, of_leg.high_read) in
         and_from _ _ (and_from _ _ (eq-eqb _ _ low) (eq-eqb _ _ high)) (le-leb _ _ of_leg.some)
 
-    sound_made : all sound_reading made ≡ true
+    sound_made : list_all sound_reading made ≡ true
     sound_made =
         all_pass sound_reading made (All-map (λ r. sound_reading r ≡ true) (λ (r : LegReading). r.made) chain.readings (All-weaker (ReadingSound h last) (λ r. sound_reading r.made ≡ true)
         (λ r s. and_from _ _ (and_from _ _ (and_from _ _ s.worker s.is_true.of_key) (le-leb _ _ s.is_true.reaches)) (lt-ltb _ _ (omega (arith, s.is_true.known))))

@@ -1,8 +1,8 @@
 -- Keys that are in range and rise from each to the next.
 use Rattle.std.proofs.Common.{◌≡◌, ℕ, zero, suc, ◌<◌, ◌≤◌, Bool, true, false, ◌&&◌, nat_le, nat_lt, List, [], ◌∷◌, length, slice_index_or, refl, sym, ap, subst, ◌∙◌, add-one, arith}
-use Rattle.std.specs.List.{IsAllAdjacentAnswer}
+use Rattle.std.specs.List.{IsAllAdjacentAnswer, list_all}
 use Rattle.std.proofs.lemmas.Bool.{ltb-true, le-leb, and_left, and_right}
-use Rattle.snapshot.specs.Accounts.{all, rising_from}
+use Rattle.snapshot.specs.Accounts.{rising_from}
 use Rattle.snapshot.specs.Limits.{is_key}
 use Rattle.snapshot.specs.declared.account.Write.{Write}
 
@@ -13,10 +13,10 @@ abbrev pub is_below : Write → Write → Bool
 is_below v w = nat_lt v.key w.key
 
 -- where each key is below the next, and the first one is k or above, they rise from k if they are in range
-rising_where_sorted : (k : ℕ) (ws : List Write) → ((i : ℕ) (d : Write) → suc i < length ws → is_below (slice_index_or ws i d) (slice_index_or ws (suc i) d) ≡ true) → ((d : Write) → 0 < length ws → k ≤ (slice_index_or ws 0 d).key) → rising_from k ws ≡ all has_fit_key ws
+rising_where_sorted : (k : ℕ) (ws : List Write) → ((i : ℕ) (d : Write) → suc i < length ws → is_below (slice_index_or ws i d) (slice_index_or ws (suc i) d) ≡ true) → ((d : Write) → 0 < length ws → k ≤ (slice_index_or ws 0 d).key) → rising_from k ws ≡ list_all has_fit_key ws
 rising_where_sorted k [] sorted first = refl
 rising_where_sorted k (w ∷ ws) sorted first =
-    let rest : rising_from (suc w.key) ws ≡ all has_fit_key ws =
+    let rest : rising_from (suc w.key) ws ≡ list_all has_fit_key ws =
     rising_where_sorted (suc w.key) ws (λ i d lt. sorted (suc i) d (omega (arith, lt)))
     (λ d lt. ltb-true w.key (slice_index_or ws 0 d).key (sorted 0 d (omega (arith, lt)))) in
     ap (λ b. b && is_key w.key && rising_from (suc w.key) ws) (le-leb k w.key (first w (omega arith))) ∙ ap (λ b. is_key w.key && b) rest
@@ -32,7 +32,7 @@ not_rising k (w ∷ v ∷ ws) (suc i) lt e =
     sym (and_right (nat_le k w.key && is_key w.key) _ (sym (not_rising (suc w.key) (v ∷ ws) i (omega (arith, lt)) e)))
 
 -- so two looks tell whether writes rise: is each key below the next, and are all in range?
-pub rising_by_two_looks : (ws : List Write) (sorted : Bool) → IsAllAdjacentAnswer (λ v w b. b ≡ is_below v w) ws sorted → (sorted && all has_fit_key ws) ≡ rising_from 0 ws
+pub rising_by_two_looks : (ws : List Write) (sorted : Bool) → IsAllAdjacentAnswer (λ v w b. b ≡ is_below v w) ws sorted → (sorted && list_all has_fit_key ws) ≡ rising_from 0 ws
 rising_by_two_looks ws true s =
     let below : (i : ℕ) (d : Write) → suc i < length ws → is_below (slice_index_or ws i d) (slice_index_or ws (suc i) d) ≡ true =
     λ i d lt. subst (λ j. is_below (slice_index_or ws i d) (slice_index_or ws j d) ≡ true) (add-one i) (sym (s i d (omega (arith, lt)))) in

@@ -36,10 +36,6 @@ account_of h rs ws =
       writes = take h.writes ws;
     }
 
--- every element passes the test
-abbrev pub all : {X : Type 0} → (X → Bool) → List X → Bool
-all test xs = list_all test xs
-
 -- worker and key are in range, the timestamp is not after the promise, and the promise is before the open end
 abbrev pub sound_reading : ChainReading → Bool
 sound_reading r =
@@ -64,7 +60,7 @@ rising_from k (w ∷ ws) = nat_le k w.key && is_key w.key && rising_from (suc w.
 -- 0 where nothing was written; else a commit's timestamp, later than every promise
 abbrev pub sound_timestamp : ℕ → List ChainReading → List Write → Bool
 sound_timestamp t rs [] = t == 0
-sound_timestamp t rs (w ∷ ws) = is_timestamp t && all (λ r. nat_lt r.reading.promise t) rs
+sound_timestamp t rs (w ∷ ws) = is_timestamp t && list_all (λ r. nat_lt r.reading.promise t) rs
 
 -- at most 32 readings and 8 writes
 abbrev pub few_enough : List ChainReading → List Write → Bool
@@ -77,7 +73,7 @@ agreed_ends l h rs = l == greatest_timestamp rs && h == least_promise rs && nat_
 abbrev pub lawful : Account → Bool
 lawful a =
     few_enough a.readings a.writes
-    && all sound_reading a.readings
+    && list_all sound_reading a.readings
     && rising_from 0 a.writes
     && agreed_ends a.low a.high a.readings
     && sound_timestamp a.timestamp a.readings a.writes

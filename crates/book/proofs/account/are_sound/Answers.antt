@@ -1,13 +1,10 @@
 -- The test of each reading is the rule's.
-use Rattle.std.proofs.Common.{◌≡◌, ◌^◌, ◌<◌, true, false, rules, tests}
-use Rattle.std.proofs.lemmas.Iterator.{YieldsList-from_slice, cases_from_all}
+use Rattle.std.proofs.Common.{rules, tests}
+use Rattle.std.proofs.lemmas.Iterator.{YieldsList-from_slice}
+use Rattle.std.proofs.lemmas.Iterator.Search.{all_from_yields_List}
 use Rattle.snapshot.specs.Accounts.{sound_reading}
-use Rattle.book.proofs.Judging.{all_tells}
 use Rattle.book.proofs.account.are_sound.Goals as goal
 
-pub returns : goal.returns
-returns c =
-    let rs = c.args.readings.now in
-    let cases = cases_from_all _ _ _ (λ x. (sound_reading x ≡ true) × (x.reading.value < 2 ^ 32)) (λ x. sound_reading x ≡ false) c.all.ensures.ran (YieldsList-from_slice rs cc) (λ x q k. search (rules, tests)) (λ x q k. search (rules, tests)) in
-    let tells = all_tells sound_reading (λ x. x.reading.value < 2 ^ 32) rs _ cases in
-    record { value = tells.0; fits = tells.1 }
+pub returns-clause-value : goal.returns-clause-value
+returns-clause-value c =
+    all_from_yields_List sound_reading _ _ _ c.all.ensures.ran (YieldsList-from_slice c.args.readings.now cc) (λ x b q k. search (rules, tests))
