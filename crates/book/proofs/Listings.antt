@@ -1,4 +1,4 @@
--- A book read so far, one account more, and the end of the reading.
+-- A book read so far, and one account more.
 use Rattle.std.proofs.Common.{◌≡◌, ℕ, ◌+◌, ◌*◌, ◌/◌, ◌<◌, ◌≤◌, true, List, [], ◌∷◌, ◌++◌, map, length, drop, sym, refl, ap, ◌∙◌, arith}
 use Rattle.std.proofs.ByRecursion.{All-push}
 use Rattle.std.proofs.lemmas.List.{append_assoc, flat_map_more, length-append, length-drop, length-map, map_push}

@@ -39,7 +39,15 @@ bytes_after a (b ∷ bs) h =
 pub bytes_number : (bs : List ℕ) → AllBelowBase 256 bs → big_endian (length bs) (number_from_digits 256 bs) ≡ bs
 bytes_number bs h = bytes_after 0 bs h
 
--- the words of `byteorder` say the same
+-- the same for a part of the bytes
+pub bytes_at : (whole at size : ℕ) (bs : List ℕ) → at + size ≤ whole → whole ≤ length bs → AllBelowBase 256 (take whole bs) → big_endian size (number_at at size bs) ≡ take size (drop at bs)
+bytes_at whole at size bs within long small =
+    let part = take size (drop at bs) in
+    let sized : length part ≡ size = length-take-le size (drop at bs) (simp length-drop (omega arith)) in
+    rw sized at (bytes_number part (small_part whole at size bs within small))
+
+-- The words of `byteorder` say the same.
+
 pow_256 : (k : ℕ) → 256 ^ k ≡ 2 ^ (8 * k)
 pow_256 zero = refl
 pow_256 (suc k) =
@@ -64,10 +72,3 @@ number_after (suc k) i a bs h =
 pub big_number_at : (at k : ℕ) (bs : List ℕ) → at + k ≤ length bs → big_number k (take (length bs - at) (drop at bs)) ≡ number_at at k bs
 big_number_at at k bs h =
     rw (take_rest bs at) (sym (number_after k 0 0 (drop at bs) (simp length-drop (omega arith)) ∙ omega arith))
-
--- the same for a part of the bytes
-pub bytes_at : (whole at size : ℕ) (bs : List ℕ) → at + size ≤ whole → whole ≤ length bs → AllBelowBase 256 (take whole bs) → big_endian size (number_at at size bs) ≡ take size (drop at bs)
-bytes_at whole at size bs within long small =
-    let part = take size (drop at bs) in
-    let sized : length part ≡ size = length-take-le size (drop at bs) (simp length-drop (omega arith)) in
-    rw sized at (bytes_number part (small_part whole at size bs within small))

@@ -1,4 +1,4 @@
--- What follows from the account that is found at a place of a book.
+-- The parts of the account that is found at a place of a book, and what follows from it.
 use Rattle.std.proofs.Common.{◌≡◌, ℕ, ◌+◌, ◌-◌, ◌<◌, ◌≤◌, List, ◌++◌, length, get_or, take, drop, Ok, Err, Result, sym, refl, ap, ◌∙◌, arith}
 use Rattle.std.proofs.ByRecursion.{All-drop, All-from_get_or, All-take}
 use Rattle.std.proofs.lemmas.List.{drop-drop, length-take-le, take_at, take_rest}

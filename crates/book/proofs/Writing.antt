@@ -1,4 +1,4 @@
--- What the writer answers, and that what it wrote reads back at any place of a book.
+-- What the writer wrote reads back at any place of a book, and its last byte stands behind the records.
 use Rattle.std.proofs.Common.{◌≡◌, ℕ, ◌-◌, ◌≤◌, true, List, [], ◌∷◌, ◌++◌, length, take, set, sym, refl, ap, ◌∙◌, arith}
 use Rattle.std.proofs.lemmas.List.{append_assoc, drop_at, length-append, take_at}
 use Rattle.std.proofs.lemmas.Bool.{le-leb}

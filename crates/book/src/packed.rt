@@ -21,7 +21,8 @@ pub(crate) fn writes_place(readings: usize) -> usize
 
 // How many bytes an account of so many readings and writes has.
 pub(crate) fn account_size(readings: usize, writes: usize) -> usize
-    requires { (readings ≤ chain_readings) × (writes ≤ write_keys) }
+    requires readings { readings ≤ chain_readings }
+    requires writes { writes ≤ write_keys }
     ensures { result ≡ size_of readings writes }
 {
     writes_place(readings) + Write::SIZE * writes + 1

@@ -160,7 +160,8 @@ fn check_frame(bytes: &[u8]) -> Result<Counts, Refusal>
 // The account that the bytes tell, each field at its place.
 fn decode(bytes: &[u8], counts: Counts) -> Stored
     requires counts { counts ≡ counts_in bytes.now }
-    requires few { (counts.readings ≤ chain_readings) × (counts.writes ≤ write_keys) }
+    requires readings { counts.readings ≤ chain_readings }
+    requires writes { counts.writes ≤ write_keys }
     requires fits { size_of counts.readings counts.writes ≤ length bytes.now }
     ensures { result ≡ account_from bytes.now }
 {

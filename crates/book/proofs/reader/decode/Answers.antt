@@ -12,10 +12,10 @@ returns c =
     let n = c.args.counts.readings in
     let m = c.args.counts.writes in
     let readings =
-    filled reading_from 22 28 n bs _ _ (omega (arith, c.requires.few)) c.unpack_all.ensures
+    filled reading_from 22 28 n bs _ _ (omega (arith, c.requires.readings)) c.unpack_all.ensures
     ∙ ap (λ k. records_from reading_from 22 k.readings (drop 28 bs)) c.requires.counts in
     let writes =
-    filled write_from 5 c.writes_place-behind.result m bs _ _ (omega (arith, c.requires.few)) c.unpack_all-2.ensures
+    filled write_from 5 c.writes_place-behind.result m bs _ _ (omega (arith, c.requires.writes)) c.unpack_all-2.ensures
     ∙ ap (λ at. records_from write_from 5 m (drop at bs)) c.writes_place-behind.ensures
     ∙ ap (λ k. records_from write_from 5 k.writes (drop (28 + 22 * k.readings) bs)) c.requires.counts in
     λ i.
