@@ -3,7 +3,7 @@ use Rattle.std.proofs.Common.{◌≡◌, ℕ, ◌-◌, ◌<◌, ◌≤◌, Bool,
 use Rattle.std.specs.Option.{option_or}
 use Rattle.std.specs.List.{AllByRecursion, list_all}
 use Rattle.std.proofs.lemmas.List.{length-drop, length-take, take-append-drop}
-use Rattle.std.proofs.lemmas.Bool.{and_parts, and_from, both_ways, cases_Bool, cond_both, cond-true, cond-false, eqb-true, leb-true, le-leb, lt-leb}
+use Rattle.std.proofs.lemmas.Bool.{and_parts, and_from, cases_Bool, cond_both, cond-true, cond-false, eqb-true, leb-true, le-leb, lt-leb}
 use Rattle.std.proofs.lemmas.Bool.Decides.{nat_tests}
 use Rattle.snapshot.specs.Limits.{keys, is_key}
 use Rattle.snapshot.specs.declared.account.Write.{Write}
@@ -227,9 +227,6 @@ module _ (b : Table) (t : ℕ) (ws : List Write) (fit_ws : fit_writes ws ≡ tru
       let shown : with_records (after_writes 16 t ws listed) (listing b.list) ≡ with_records (after_writes 16 t ws rs) (listing b.list) =
       ap (λ xs. with_records (after_writes 16 t ws xs) (listing b.list)) (sym (shown_fit mem b.list.kept fit)) in
       changed_to b l t (after_writes 16 t ws rs) (with_writes 16 t ws m).kept fit (is ∙ shown) sound_after order_after kept_after
-
-  pub write_alone : Ok tt ≡ if_fits (length (after_writes 16 t ws listed)) (room_in mem) → is_table_size (length mem) ≡ false → ⊥
-  write_alone ok unfit = both_ways _ unfit (fit_where_room ok)
 
 -- A prune.
 

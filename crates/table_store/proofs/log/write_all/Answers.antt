@@ -7,10 +7,6 @@ use Rattle.table_store.specs.PerKeys.{number_for, per_key}
 use Rattle.table_store.specs.Records.{drop_firsts, excess, of_key, with_all, with_records, written}
 use Rattle.table_store.proofs.log.write_all.Goals as goal
 
-pub overflow_sub-room : goal.overflow_sub-room
-overflow_sub-room g c =
-    omega (arith, c.count_left-left.ensures.within, ap length c.records-2.ensures, c.room.ensures, g.met.L.RecordList.within c.args.log.now)
-
 pub returns-clause-after : goal.returns-clause-after
 returns-clause-after g c =
     let l = g.L.RecordList.listing c.args.log.now in
