@@ -2,4 +2,3 @@ pub mod Numbers
 pub mod Firsts
 pub mod Risings
 pub mod Agreement
-pub mod Lawfuls
