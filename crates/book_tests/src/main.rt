@@ -19,14 +19,10 @@ fn list(rt: &HostRuntime, name: &str) -> anyhow::Result<()> {
     Ok(())
 }
 
-fn run(rt: &HostRuntime) -> anyhow::Result<()> {
+fn main(rt: HostRuntime) -> anyhow::Result<()> {
     for number in 1..=BOOKS {
         let name = format!(in rt.alloc(); "book-{number:02}.book")?;
-        list(rt, name.as_str())?;
+        list(&rt, name.as_str())?;
     }
     Ok(())
-}
-
-fn main(rt: HostRuntime) -> anyhow::Result<()> {
-    run(&rt)
 }

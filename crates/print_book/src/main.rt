@@ -6,7 +6,7 @@ use std::io::Read;
 
 const MOST_BYTES: u64 = 65_536;
 
-fn run(rt: &HostRuntime) -> anyhow::Result<()> {
+fn main(rt: HostRuntime) -> anyhow::Result<()> {
     let heap = rt.alloc();
     let mut bytes = Vec::new(heap);
     let _ = rt.stdin().take(MOST_BYTES).read_to_end(&mut bytes)?;
@@ -15,8 +15,4 @@ fn run(rt: &HostRuntime) -> anyhow::Result<()> {
     let text = listing_text(heap, heads.as_slice(), ending)?;
     rt.print(text)?;
     Ok(())
-}
-
-fn main(rt: HostRuntime) -> anyhow::Result<()> {
-    run(&rt)
 }

@@ -125,9 +125,9 @@ fn run_newest(rt: &HostRuntime, plan: Plan) -> anyhow::Result<()> {
     run_plan(rt, &mut Newest::new(), plan, |_| Ok(()))
 }
 
-fn run(rt: &HostRuntime) -> anyhow::Result<()> {
+fn main(rt: HostRuntime) -> anyhow::Result<()> {
     run_table(
-        rt,
+        &rt,
         &mut [NO_RECORD; 64],
         Plan {
             seed: 64,
@@ -136,7 +136,7 @@ fn run(rt: &HostRuntime) -> anyhow::Result<()> {
         },
     )?;
     run_table(
-        rt,
+        &rt,
         &mut [NO_RECORD; 72],
         Plan {
             seed: 72,
@@ -145,7 +145,7 @@ fn run(rt: &HostRuntime) -> anyhow::Result<()> {
         },
     )?;
     run_table(
-        rt,
+        &rt,
         &mut [NO_RECORD; 200],
         Plan {
             seed: 200,
@@ -154,7 +154,7 @@ fn run(rt: &HostRuntime) -> anyhow::Result<()> {
         },
     )?;
     run_table(
-        rt,
+        &rt,
         &mut [NO_RECORD; 1024],
         Plan {
             seed: 1024,
@@ -163,15 +163,11 @@ fn run(rt: &HostRuntime) -> anyhow::Result<()> {
         },
     )?;
     run_newest(
-        rt,
+        &rt,
         Plan {
             seed: 1,
             hundreds: 10,
             prunes: 20,
         },
     )
-}
-
-fn main(rt: HostRuntime) -> anyhow::Result<()> {
-    run(&rt)
 }
