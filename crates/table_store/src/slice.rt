@@ -54,8 +54,7 @@ impl RecordList for RecordSlice<'_> {
     }
 
     fn retain<F: FnMut(&Record) -> bool>(&mut self, keep: F) {
-        let kept = self.kept;
-        self.kept = compact(&mut self.memory[..kept], keep);
+        self.kept = compact(&mut self.memory[..self.kept], keep);
     }
 
     fn push(&mut self, new: Record) {
