@@ -1,5 +1,5 @@
 -- A new store has the meaning of one, and writes leave the meaning that a commit of depth 1 should, with room for it.
-use Rattle.std.proofs.Common.{◌≡◌, ℕ, zero, suc, ◌≤◌, Bool, true, false, if◌then◌else◌, leb, List, [], ◌∷◌, length, replicate, Some, None, Option, refl, ap, ◌∙◌, subst, arith}
+use Rattle.std.proofs.Common.{◌≡◌, ℕ, zero, suc, ◌≤◌, Bool, true, false, if◌then◌else◌, leb, List, [], ◌∷◌, length, get_or, replicate, Some, None, Option, refl, ap, ◌∙◌, subst, arith}
 use Rattle.std.proofs.lemmas.Bool.{cond_both, le-leb}
 use Rattle.snapshot.specs.Accounts.{rising_from}
 use Rattle.snapshot.specs.Limits.{keys, is_key}
@@ -8,13 +8,18 @@ use Rattle.store.specs.Meaning.{Meaning, version_of, new_store, written_to, kept
 use Rattle.store.specs.declared.version.Version.{Version}
 use Rattle.newest_store.specs.Newest.{newest_meaning, version_at, version_with}
 use Rattle.newest_store.specs.declared.newest.Newest.{Newest}
-use Rattle.store.proofs.Repeats.{repeated_everywhere}
 use Rattle.store.proofs.Writes.{rising_keys, unwritten_past}
 
 abbrev newest_of : ℕ → List Version → Newest
 newest_of t vs = record { last = t; versions = vs }
 
 -- A new store.
+
+-- a list that repeats one element has that element everywhere
+repeated_everywhere : {X : Type 0} (x : X) (n k : ℕ) → get_or (replicate n x) k x ≡ x
+repeated_everywhere x zero k = refl
+repeated_everywhere x (suc n) zero = refl
+repeated_everywhere x (suc n) (suc k) = repeated_everywhere x n k
 
 pub new_meaning : newest_meaning (newest_of 0 (replicate keys (version_of 0 0))) ≡ new_store keys
 new_meaning =

@@ -3,4 +3,3 @@ pub mod Versions
 pub mod Standing
 pub mod Keeping
 pub mod Writes
-pub mod Repeats
