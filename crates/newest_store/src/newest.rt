@@ -17,6 +17,7 @@ use store::version::Version;
 #[derive(Drop)]
 pub struct Newest {
     last: u64,
+    // `as`, since the length of an array calls no function
     versions: [Version; KEYS as usize],
 }
 

@@ -47,7 +47,8 @@ pub enum Layer {
     Book,
 }
 
-// What stands in a fault for a place, leg or key that the call lacks or has several of.
+// What stands in a fault for a place, leg or key that the call lacks or has several of. A rule, and no `Option`: a call may
+// also name 255.
 pub const NOT_NAMED: u8 = 255;
 
 // A refusal, the layer that refused first, and the place, leg and key as the call named them.
@@ -108,7 +109,7 @@ pub struct EngineFault {
 }
 
 impl EngineFault {
-    // A fault that no store has a part in.
+    // A fault that no store has a part in. Not a `From`, by which `?` could take a store's fault for such a one.
     pub fn own(fault: Fault) -> EngineFault
         ensures { result ≡ own_fault fault }
     {

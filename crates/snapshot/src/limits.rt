@@ -48,6 +48,8 @@ pub fn is_timestamp(time: u64) -> bool
     1 <= time && time < OPEN_END
 }
 
+// One comparison each: `is_below::<KEYS>(key)`, generic in the limit, would be longer and say less.
+
 // Is there a key of this number?
 pub fn is_key(number: u8) -> bool
     ensures { result ≡ is_key number }

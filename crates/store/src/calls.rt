@@ -8,7 +8,7 @@ use snapshot::account::{Reading, Write};
 use snapshot::fault::Fault;
 use std::alloc::AllocError;
 
-// One call of a store.
+// One call of a store: a value and no closure, so that the laws can speak of any list of calls.
 #[derive(Clone, Copy)]
 pub enum StoreCall<'a> {
     Last,

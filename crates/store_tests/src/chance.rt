@@ -35,7 +35,8 @@ impl Chance {
         self.below(times.max(1)) == 0
     }
 
-    // One of the first six keys, any key, or any number of a byte.
+    // One of the first six keys, any key, or any number of a byte. Here and below `as` keeps the number: `below` says that it
+    // fits.
     pub(crate) fn key(&mut self) -> u8 {
         match self.below(16) {
             0 => self.below(256) as u8,

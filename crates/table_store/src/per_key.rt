@@ -6,6 +6,7 @@ use snapshot::limits::{KEYS, is_key};
 
 #[derive(Clone, Copy)]
 pub(crate) struct PerKey {
+    // `as`, since the length of an array calls no function
     numbers: [usize; KEYS as usize],
 }
 
@@ -30,6 +31,7 @@ impl PerKey {
     pub(crate) fn set(&mut self, key: u8, number: usize)
         ensures { (k : ℕ) → number_for self.new k ≡ with (number_for self.old) key number k }
     {
+        // a test and an index: after a write through `get_mut` nothing is known of the other numbers
         if is_key(key) {
             self.numbers[usize::from(key)] = number;
         }
