@@ -73,7 +73,8 @@ pub(crate) fn is_fit(memory: &[Record]) -> bool
     LEAST_RECORDS <= memory.len() && memory.len() <= MOST_RECORDS
 }
 
-// By index, since a slice has no `retain`: moves the records that are to be kept to the front, writes zeros after them, and answers how many they are.
+// Moves the records that are to be kept to the front, writes zeros after them, and answers how many they are. By index,
+// since a slice has no `retain`.
 fn compact<F: FnMut(&Record) -> bool>(records: &mut [Record], mut keep: F) -> usize
     requires { F.IsAlwaysCallable keep }
     ensures kept { IsFiltered (CalledAt F.FnMut) keep records.old (take result records.new) }
