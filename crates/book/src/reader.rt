@@ -8,6 +8,7 @@ ghost use Rattle.book.specs.Format.{account_from, bytes_of, counts_in, framed, f
 ghost use Rattle.book.specs.Theorems.{AcceptedOnly, IsWritten};
 
 use crate::account::Account;
+use crate::lawful::LawfulAccount;
 use crate::packed::{HEAD_SIZE, account_size, unpack_all, writes_place};
 use crate::sum::last_byte;
 use crate::writer::MARK;
@@ -34,7 +35,7 @@ pub(crate) struct Counts {
 
 // An account with memory of its own: the first elements of its two lists, as many as the head says.
 #[derive(Drop)]
-pub(crate) struct Stored {
+struct Stored {
     head: AccountHead,
     readings: [ChainReading; CHAIN_READINGS],
     writes: [Write; WRITE_KEYS],
@@ -53,7 +54,7 @@ impl Model for Stored {
 }
 
 impl Stored {
-    pub(crate) fn account(&self) -> Account<'_>
+    fn account(&self) -> Account<'_>
         ensures { told result ≡ self.now }
     {
         Account {
@@ -65,20 +66,46 @@ impl Stored {
     }
 }
 
-impl Account<'_> {
+// A lawful account with memory of its own.
+#[derive(Drop)]
+pub(crate) struct LawfulStored {
+    stored: Stored,
+}
+
+impl Model for LawfulStored {
+    ghost use Rattle.std.specs.Prelude.{◌≡◌, true};
+    ghost use Rattle.snapshot.specs.Accounts.{Account, lawful};
+
+    ghost Value = { Account };
+
+    ghost view = { λ s. s.stored };
+
+    ghost invariant = { λ s. lawful s.stored ≡ true };
+}
+
+impl LawfulStored {
+    pub(crate) fn account(&self) -> LawfulAccount<'_>
+        ensures { told result.account ≡ self.now }
+    {
+        LawfulAccount {
+            account: self.stored.account(),
+        }
+    }
+}
+
+impl LawfulAccount<'_> {
     // The five numbers, and the place after the account's bytes where they begin at this one.
     pub(crate) fn located(&self, start: usize) -> AccountAt
-        requires lawfully { lawful (told self.now) ≡ true }
-        requires fits { start + length (bytes_of (told self.now)) < 2 ^ 64 }
-        ensures head { result.head ≡ head_of (told self.now) }
-        ensures end { result.end ≡ start + length (bytes_of (told self.now)) }
+        requires { start + length (bytes_of (told self.now.account)) < 2 ^ 64 }
+        ensures head { result.head ≡ head_of (told self.now.account) }
+        ensures end { result.end ≡ start + length (bytes_of (told self.now.account)) }
     {
         AccountAt {
             head: AccountHead {
-                interval: self.interval,
-                timestamp: self.timestamp,
-                readings: self.readings.len(),
-                writes: self.writes.len(),
+                interval: self.account.interval,
+                timestamp: self.account.timestamp,
+                readings: self.account.readings.len(),
+                writes: self.account.writes.len(),
             },
             end: start + self.size(),
         }
@@ -100,18 +127,19 @@ pub fn read_account(
     ensures written { AcceptedOnly book.now start result readings.new writes.new }
 {
     let stored = account_at(book, start)?;
-    let account = stored.account();
+    let found = stored.account();
+    let account = found.account;
     if readings.len() < account.readings.len() || writes.len() < account.writes.len() {
         return Err(BookFault::new(Refusal::TooShort, start));
     }
     fill(readings, account.readings);
     fill(writes, account.writes);
-    Ok(account.located(start))
+    Ok(found.located(start))
 }
 
 // The account at this place of the book.
 #[tactic(auto, using(crate::proofs::Reading::accepted_at))]
-pub(crate) fn account_at(book: &[u8], start: usize) -> Result<Stored, BookFault>
+pub(crate) fn account_at(book: &[u8], start: usize) -> Result<LawfulStored, BookFault>
     ensures value { result ≡ faulted start (front_account (drop start book.now)) }
     ensures written { IfOk result (IsWritten (drop start book.now)) }
 {
@@ -119,7 +147,7 @@ pub(crate) fn account_at(book: &[u8], start: usize) -> Result<Stored, BookFault>
 }
 
 // The account at the front of the bytes.
-fn front_account(bytes: &[u8]) -> Result<Stored, Refusal>
+fn front_account(bytes: &[u8]) -> Result<LawfulStored, Refusal>
     ensures { result ≡ front_account bytes.now }
 {
     let counts = check_frame(bytes)?;
@@ -127,7 +155,7 @@ fn front_account(bytes: &[u8]) -> Result<Stored, Refusal>
     if !stored.account().is_lawful() {
         return Err(Refusal::Unlawful);
     }
-    Ok(stored)
+    Ok(LawfulStored { stored })
 }
 
 // The counts of the account at the front of the bytes; refused where the account is cut short, its mark or its last byte
