@@ -12,8 +12,9 @@ use crate::lawful::LawfulAccount;
 use crate::packed::{HEAD_SIZE, account_size, unpack_all, writes_place};
 use crate::sum::last_byte;
 use crate::writer::MARK;
+use arrayvec::ArrayVec;
 use byteorder::{BigEndian, ByteOrder};
-use snapshot::account::{AccountHead, ChainReading, NO_READING, NO_WRITE, Write};
+use snapshot::account::{AccountHead, ChainReading, Write};
 use snapshot::fault::{BookFault, Refusal};
 use snapshot::interval::Interval;
 use snapshot::limits::{CHAIN_READINGS, WRITE_KEYS};
@@ -33,24 +34,27 @@ pub(crate) struct Counts {
     writes: usize,
 }
 
-// An account with memory of its own: the first elements of its two lists, as many as the head says.
+// An account with memory of its own.
 #[derive(Drop)]
 struct Stored {
-    head: AccountHead,
-    readings: [ChainReading; CHAIN_READINGS],
-    writes: [Write; WRITE_KEYS],
+    interval: Interval,
+    timestamp: u64,
+    readings: ArrayVec<ChainReading, CHAIN_READINGS>,
+    writes: ArrayVec<Write, WRITE_KEYS>,
 }
 
 impl Model for Stored {
-    ghost use Rattle.std.specs.Prelude.{◌≤◌};
-    ghost use Rattle.snapshot.specs.Accounts.{Account, account_of};
-    ghost use Rattle.snapshot.specs.Limits.{chain_readings, write_keys};
+    ghost use Rattle.snapshot.specs.Accounts.{Account};
 
     ghost Value = { Account };
 
-    ghost view = { λ s. account_of s.head s.readings s.writes };
-
-    ghost invariant = { λ s. (s.head.readings ≤ chain_readings) × (s.head.writes ≤ write_keys) };
+    ghost view = { λ s. record {
+      low = s.interval.low;
+      high = s.interval.high;
+      timestamp = s.timestamp;
+      readings = s.readings.items;
+      writes = s.writes.items;
+    } };
 }
 
 impl Stored {
@@ -58,10 +62,10 @@ impl Stored {
         ensures { told result ≡ self.now }
     {
         Account {
-            interval: self.head.interval,
-            timestamp: self.head.timestamp,
-            readings: &self.readings[..self.head.readings],
-            writes: &self.writes[..self.head.writes],
+            interval: self.interval,
+            timestamp: self.timestamp,
+            readings: self.readings.as_slice(),
+            writes: self.writes.as_slice(),
         }
     }
 }
@@ -193,23 +197,14 @@ fn decode(bytes: &[u8], counts: Counts) -> Stored
     requires fits { size_of counts.readings counts.writes ≤ length bytes.now }
     ensures { result ≡ account_from bytes.now }
 {
-    let mut readings = [NO_READING; CHAIN_READINGS];
-    let mut writes = [NO_WRITE; WRITE_KEYS];
-    unpack_all(&bytes[HEAD_SIZE..], &mut readings[..counts.readings]);
-    let behind = writes_place(counts.readings);
-    unpack_all(&bytes[behind..], &mut writes[..counts.writes]);
     Stored {
-        head: AccountHead {
-            interval: Interval {
-                low: BigEndian::read_u64(&bytes[4..]),
-                high: BigEndian::read_u64(&bytes[12..]),
-            },
-            timestamp: BigEndian::read_u64(&bytes[20..]),
-            readings: counts.readings,
-            writes: counts.writes,
+        interval: Interval {
+            low: BigEndian::read_u64(&bytes[4..]),
+            high: BigEndian::read_u64(&bytes[12..]),
         },
-        readings,
-        writes,
+        timestamp: BigEndian::read_u64(&bytes[20..]),
+        readings: unpack_all(&bytes[HEAD_SIZE..], counts.readings),
+        writes: unpack_all(&bytes[writes_place(counts.readings)..], counts.writes),
     }
 }
 
