@@ -1,6 +1,6 @@
 // Reading an account at a place of a book into two lists of the caller's.
-ghost use Rattle.std.specs.Prelude.{◌≡◌, ◌+◌, ◌^◌, ◌<◌, ◌≤◌, true, length, drop, IfOk, Ok};
-ghost use Rattle.snapshot.specs.Accounts.{head_of, lawful};
+ghost use Rattle.std.specs.Prelude.{◌≡◌, ◌+◌, ◌^◌, ◌<◌, ◌≤◌, length, drop, IfOk, Ok};
+ghost use Rattle.snapshot.specs.Accounts.{head_of};
 ghost use Rattle.snapshot.specs.Limits.{chain_readings, write_keys};
 ghost use Rattle.book.specs.Bytes.{overwritten};
 ghost use Rattle.book.specs.Calls.{faulted, located, read_at, readings_of, writes_of};

@@ -18,6 +18,7 @@ pub const MARK: [u8; 2] = [0xC3, 0x3C];
 impl Account<'_> {
     // Writes the account to the start of the buffer and answers its length. Refuses an unlawful account, then a buffer
     // that is too short; a refusal leaves the buffer as it was.
+    #[tactic(auto, using(crate::proofs::Writing::reads_back_anywhere))]
     pub fn write(&self, buffer: &mut [u8]) -> Result<usize, BookFault>
         ensures value { result ≡ faulted 0 (writing (told self.now) (length buffer.old)) }
         ensures after { buffer.new ≡ buffer_after (told self.now) buffer.old }
