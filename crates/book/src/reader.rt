@@ -1,6 +1,6 @@
 // Reading an account at a place of a book into two lists of the caller's.
-ghost use Rattle.std.specs.Prelude.{◌≡◌, ◌+◌, ◌^◌, ◌<◌, ◌≤◌, length, drop, IfOk, Ok};
-ghost use Rattle.snapshot.specs.Accounts.{head_of};
+ghost use Rattle.std.specs.Prelude.{◌≡◌, ◌+◌, ◌^◌, ◌<◌, ◌≤◌, if◌then◌else◌, length, drop, IfOk, None, Ok, Some};
+ghost use Rattle.snapshot.specs.Accounts.{head_of, lawful};
 ghost use Rattle.snapshot.specs.Limits.{chain_readings, write_keys};
 ghost use Rattle.book.specs.Bytes.{overwritten};
 ghost use Rattle.book.specs.Calls.{faulted, located, read_at, readings_of, writes_of};
@@ -66,6 +66,17 @@ impl Stored {
             timestamp: self.timestamp,
             readings: self.readings.as_slice(),
             writes: self.writes.as_slice(),
+        }
+    }
+
+    // This account as a lawful one, if it is.
+    fn lawful(self) -> Option<LawfulStored>
+        ensures { result ≡ (if lawful self then Some self else None) }
+    {
+        if self.account().is_lawful() {
+            Some(LawfulStored { stored: self })
+        } else {
+            None
         }
     }
 }
@@ -155,11 +166,7 @@ fn front_account(bytes: &[u8]) -> Result<LawfulStored, Refusal>
     ensures { result ≡ front_account bytes.now }
 {
     let counts = check_frame(bytes)?;
-    let stored = decode(bytes, counts);
-    if !stored.account().is_lawful() {
-        return Err(Refusal::Unlawful);
-    }
-    Ok(LawfulStored { stored })
+    decode(bytes, counts).lawful().ok_or(Refusal::Unlawful)
 }
 
 // The counts of the account at the front of the bytes; refused where the account is cut short, its mark or its last byte
