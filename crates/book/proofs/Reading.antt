@@ -1,19 +1,18 @@
 -- The parts of the account that is found at a place of a book, and what follows from it.
-use Rattle.std.proofs.Common.{◌≡◌, ℕ, ◌+◌, ◌-◌, ◌<◌, ◌≤◌, List, ◌++◌, length, get_or, take, drop, Ok, Err, Result, sym, refl, ap, ◌∙◌, arith}
+use Rattle.std.proofs.Common.{◌≡◌, ℕ, ◌+◌, ◌<◌, ◌≤◌, List, ◌++◌, length, get_or, drop, Ok, Err, Result, sym, refl, ap, ◌∙◌, arith}
 use Rattle.std.proofs.ByRecursion.{All-drop, All-from_get_or, All-take}
-use Rattle.std.proofs.lemmas.List.{drop-drop, length-take-le, take_at, take_rest}
+use Rattle.std.proofs.lemmas.List.{drop-drop, take_at}
 use Rattle.std.proofs.lemmas.Bool.Decides.{nat_tests}
 use Rattle.snapshot.specs.Accounts.{Account, account_of, head_of}
 use Rattle.snapshot.specs.declared.account.ChainReading.{ChainReading}
 use Rattle.snapshot.specs.declared.account.Write.{Write}
 use Rattle.snapshot.specs.declared.fault.Refusal.{Refusal}
-use Rattle.book.specs.Bytes.{overwritten, records_from}
+use Rattle.book.specs.Bytes.{overwritten}
 use Rattle.book.specs.Calls.{faulted, front_for}
 use Rattle.book.specs.Format.{account_from, bytes_of, counts_in, framed, front_account, lawful_only, size_of}
 use Rattle.book.specs.Theorems.{Accepted, IsWritten}
 use Rattle.book.specs.declared.reader.AccountAt.{AccountAt}
 use Rattle.book.specs.declared.reader.Counts.{Counts}
-use Rattle.book.proofs.Records.{length_records}
 use Rattle.book.proofs.RoundTrip.{accepted_is_written, takes_its_size}
 
 pub frame_refuses : (bs : List ℕ) (e : Refusal) → ◌≡◌ {A = Result Counts Refusal} (framed bs (Ok (counts_in bs))) (Err e) → front_account bs ≡ Err e
@@ -23,15 +22,6 @@ frame_refuses bs e h = grind (arith, nat_tests)
 pub frame_passes : (bs : List ℕ) (k : Counts) → ◌≡◌ {A = Result Counts Refusal} (framed bs (Ok (counts_in bs))) (Ok k) → front_account bs ≡ lawful_only (account_from bs)
 unfolding front_account
 frame_passes bs k h = grind (arith, nat_tests)
-
--- a list's first n elements, filled with the records that stand from a place on
-pub filled : {X : Type 0} (one : List ℕ → X) (size at n : ℕ) (bs : List ℕ) (blank rest : List X) {into : List X} → n ≤ length blank → into ≡ records_from one size (length (take n blank)) (take (length bs - at) (drop at bs)) → take n (into ++ rest) ≡ records_from one size n (drop at bs)
-filled one size at n bs blank rest {into} fits is =
-    let same : into ≡ records_from one size n (drop at bs) =
-    is
-    ∙ ap (λ k. records_from one size k (take (length bs - at) (drop at bs))) (length-take-le n blank fits)
-    ∙ ap (records_from one size n) (take_rest bs at) in
-    take_at into rest n (ap length same ∙ length_records one size n (drop at bs)) ∙ same
 
 -- an account that is found at a place of a book of bytes is written there
 pub accepted_at : (book : List ℕ) → ((i : ℕ) → get_or book i 0 < 256) → (start : ℕ) (a : Account) → front_account (drop start book) ≡ Ok a → IsWritten (drop start book) a

@@ -2,6 +2,7 @@
 #![tactic(auto)]
 
 pub mod account;
+mod lawful;
 pub mod listing;
 mod packed;
 pub mod reader;

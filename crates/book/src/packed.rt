@@ -5,6 +5,7 @@ ghost use Rattle.snapshot.specs.Limits.{chain_readings, write_keys};
 ghost use Rattle.book.specs.Bytes.{overwritten, records_from};
 ghost use Rattle.book.specs.Format.{head_size, reading_bytes, reading_from, reading_size, size_of, write_bytes, write_from, write_size};
 
+use arrayvec::ArrayVec;
 use byteorder::{BigEndian, ByteOrder};
 use snapshot::account::{ChainReading, Reading, Write};
 
@@ -117,14 +118,19 @@ pub(crate) fn pack_all<T: Packed>(records: &[T], room: &mut [u8])
     }
 }
 
-// Fills the list with the records that stand one after another at the front of the bytes.
-pub(crate) fn unpack_all<T: Packed + Drop>(bytes: &[u8], into: &mut [T])
-    requires { T.SIZE * length into.old ≤ length bytes.now }
-    ensures { into.new ≡ records_from T.unpacked T.SIZE (length into.old) bytes.now }
+// The records that stand one after another at the front of the bytes, so many.
+#[tactic(auto, using(crate::proofs::Records::length_records))]
+pub(crate) fn unpack_all<T: Packed + Default + Drop, const MOST: usize>(
+    bytes: &[u8],
+    count: usize,
+) -> ArrayVec<T, MOST>
+    requires room { count ≤ MOST }
+    requires fits { T.SIZE * count ≤ length bytes.now }
+    ensures { result.items ≡ records_from T.unpacked T.SIZE count bytes.now }
 {
-    let mut rest = bytes;
-    for record in into.iter_mut() {
-        *record = T::unpack(rest);
-        rest = &rest[T::SIZE..];
+    let mut records = ArrayVec::new();
+    for i in 0..count {
+        records.push(T::unpack(&bytes[T::SIZE * i..]));
     }
+    records
 }

@@ -1,5 +1,5 @@
 // Reading an account at a place of a book into two lists of the caller's.
-ghost use Rattle.std.specs.Prelude.{◌≡◌, ◌+◌, ◌^◌, ◌<◌, ◌≤◌, true, length, drop, IfOk, Ok};
+ghost use Rattle.std.specs.Prelude.{◌≡◌, ◌+◌, ◌^◌, ◌<◌, ◌≤◌, if◌then◌else◌, length, drop, IfOk, None, Ok, Some};
 ghost use Rattle.snapshot.specs.Accounts.{head_of, lawful};
 ghost use Rattle.snapshot.specs.Limits.{chain_readings, write_keys};
 ghost use Rattle.book.specs.Bytes.{overwritten};
@@ -8,11 +8,13 @@ ghost use Rattle.book.specs.Format.{account_from, bytes_of, counts_in, framed, f
 ghost use Rattle.book.specs.Theorems.{AcceptedOnly, IsWritten};
 
 use crate::account::Account;
+use crate::lawful::LawfulAccount;
 use crate::packed::{HEAD_SIZE, account_size, unpack_all, writes_place};
 use crate::sum::last_byte;
 use crate::writer::MARK;
+use arrayvec::ArrayVec;
 use byteorder::{BigEndian, ByteOrder};
-use snapshot::account::{AccountHead, ChainReading, NO_READING, NO_WRITE, Write};
+use snapshot::account::{AccountHead, ChainReading, Write};
 use snapshot::fault::{BookFault, Refusal};
 use snapshot::interval::Interval;
 use snapshot::limits::{CHAIN_READINGS, WRITE_KEYS};
@@ -32,53 +34,93 @@ pub(crate) struct Counts {
     writes: usize,
 }
 
-// An account with memory of its own: the first elements of its two lists, as many as the head says.
+// An account with memory of its own.
 #[derive(Drop)]
-pub(crate) struct Stored {
-    head: AccountHead,
-    readings: [ChainReading; CHAIN_READINGS],
-    writes: [Write; WRITE_KEYS],
+struct Stored {
+    interval: Interval,
+    timestamp: u64,
+    readings: ArrayVec<ChainReading, CHAIN_READINGS>,
+    writes: ArrayVec<Write, WRITE_KEYS>,
 }
 
 impl Model for Stored {
-    ghost use Rattle.std.specs.Prelude.{◌≤◌};
-    ghost use Rattle.snapshot.specs.Accounts.{Account, account_of};
-    ghost use Rattle.snapshot.specs.Limits.{chain_readings, write_keys};
+    ghost use Rattle.snapshot.specs.Accounts.{Account};
 
     ghost Value = { Account };
 
-    ghost view = { λ s. account_of s.head s.readings s.writes };
-
-    ghost invariant = { λ s. (s.head.readings ≤ chain_readings) × (s.head.writes ≤ write_keys) };
+    ghost view = { λ s. record {
+      low = s.interval.low;
+      high = s.interval.high;
+      timestamp = s.timestamp;
+      readings = s.readings.items;
+      writes = s.writes.items;
+    } };
 }
 
 impl Stored {
-    pub(crate) fn account(&self) -> Account<'_>
+    fn account(&self) -> Account<'_>
         ensures { told result ≡ self.now }
     {
         Account {
-            interval: self.head.interval,
-            timestamp: self.head.timestamp,
-            readings: &self.readings[..self.head.readings],
-            writes: &self.writes[..self.head.writes],
+            interval: self.interval,
+            timestamp: self.timestamp,
+            readings: self.readings.as_slice(),
+            writes: self.writes.as_slice(),
+        }
+    }
+
+    // This account as a lawful one, if it is.
+    fn lawful(self) -> Option<LawfulStored>
+        ensures { result ≡ (if lawful self then Some self else None) }
+    {
+        if self.account().is_lawful() {
+            Some(LawfulStored { stored: self })
+        } else {
+            None
         }
     }
 }
 
-impl Account<'_> {
+// A lawful account with memory of its own.
+#[derive(Drop)]
+pub(crate) struct LawfulStored {
+    stored: Stored,
+}
+
+impl Model for LawfulStored {
+    ghost use Rattle.std.specs.Prelude.{◌≡◌, true};
+    ghost use Rattle.snapshot.specs.Accounts.{Account, lawful};
+
+    ghost Value = { Account };
+
+    ghost view = { λ s. s.stored };
+
+    ghost invariant = { λ s. lawful s.stored ≡ true };
+}
+
+impl LawfulStored {
+    pub(crate) fn account(&self) -> LawfulAccount<'_>
+        ensures { told result.account ≡ self.now }
+    {
+        LawfulAccount {
+            account: self.stored.account(),
+        }
+    }
+}
+
+impl LawfulAccount<'_> {
     // The five numbers, and the place after the account's bytes where they begin at this one.
     pub(crate) fn located(&self, start: usize) -> AccountAt
-        requires lawfully { lawful (told self.now) ≡ true }
-        requires fits { start + length (bytes_of (told self.now)) < 2 ^ 64 }
-        ensures head { result.head ≡ head_of (told self.now) }
-        ensures end { result.end ≡ start + length (bytes_of (told self.now)) }
+        requires { start + length (bytes_of (told self.now.account)) < 2 ^ 64 }
+        ensures head { result.head ≡ head_of (told self.now.account) }
+        ensures end { result.end ≡ start + length (bytes_of (told self.now.account)) }
     {
         AccountAt {
             head: AccountHead {
-                interval: self.interval,
-                timestamp: self.timestamp,
-                readings: self.readings.len(),
-                writes: self.writes.len(),
+                interval: self.account.interval,
+                timestamp: self.account.timestamp,
+                readings: self.account.readings.len(),
+                writes: self.account.writes.len(),
             },
             end: start + self.size(),
         }
@@ -100,18 +142,19 @@ pub fn read_account(
     ensures written { AcceptedOnly book.now start result readings.new writes.new }
 {
     let stored = account_at(book, start)?;
-    let account = stored.account();
+    let found = stored.account();
+    let account = found.account;
     if readings.len() < account.readings.len() || writes.len() < account.writes.len() {
         return Err(BookFault::new(Refusal::TooShort, start));
     }
     fill(readings, account.readings);
     fill(writes, account.writes);
-    Ok(account.located(start))
+    Ok(found.located(start))
 }
 
 // The account at this place of the book.
 #[tactic(auto, using(crate::proofs::Reading::accepted_at))]
-pub(crate) fn account_at(book: &[u8], start: usize) -> Result<Stored, BookFault>
+pub(crate) fn account_at(book: &[u8], start: usize) -> Result<LawfulStored, BookFault>
     ensures value { result ≡ faulted start (front_account (drop start book.now)) }
     ensures written { IfOk result (IsWritten (drop start book.now)) }
 {
@@ -119,15 +162,11 @@ pub(crate) fn account_at(book: &[u8], start: usize) -> Result<Stored, BookFault>
 }
 
 // The account at the front of the bytes.
-fn front_account(bytes: &[u8]) -> Result<Stored, Refusal>
+fn front_account(bytes: &[u8]) -> Result<LawfulStored, Refusal>
     ensures { result ≡ front_account bytes.now }
 {
     let counts = check_frame(bytes)?;
-    let stored = decode(bytes, counts);
-    if !stored.account().is_lawful() {
-        return Err(Refusal::Unlawful);
-    }
-    Ok(stored)
+    decode(bytes, counts).lawful().ok_or(Refusal::Unlawful)
 }
 
 // The counts of the account at the front of the bytes; refused where the account is cut short, its mark or its last byte
@@ -165,23 +204,14 @@ fn decode(bytes: &[u8], counts: Counts) -> Stored
     requires fits { size_of counts.readings counts.writes ≤ length bytes.now }
     ensures { result ≡ account_from bytes.now }
 {
-    let mut readings = [NO_READING; CHAIN_READINGS];
-    let mut writes = [NO_WRITE; WRITE_KEYS];
-    unpack_all(&bytes[HEAD_SIZE..], &mut readings[..counts.readings]);
-    let behind = writes_place(counts.readings);
-    unpack_all(&bytes[behind..], &mut writes[..counts.writes]);
     Stored {
-        head: AccountHead {
-            interval: Interval {
-                low: BigEndian::read_u64(&bytes[4..]),
-                high: BigEndian::read_u64(&bytes[12..]),
-            },
-            timestamp: BigEndian::read_u64(&bytes[20..]),
-            readings: counts.readings,
-            writes: counts.writes,
+        interval: Interval {
+            low: BigEndian::read_u64(&bytes[4..]),
+            high: BigEndian::read_u64(&bytes[12..]),
         },
-        readings,
-        writes,
+        timestamp: BigEndian::read_u64(&bytes[20..]),
+        readings: unpack_all(&bytes[HEAD_SIZE..], counts.readings),
+        writes: unpack_all(&bytes[writes_place(counts.readings)..], counts.writes),
     }
 }
 

@@ -1,12 +1,12 @@
 // Writing an account into a buffer of the caller's.
 ghost use Rattle.std.specs.Prelude.{◌≡◌, ◌≤◌, true, length, is_ok};
-ghost use Rattle.snapshot.specs.Accounts.{lawful};
 ghost use Rattle.book.specs.Bytes.{overwritten};
 ghost use Rattle.book.specs.Calls.{buffer_after, faulted, writing};
 ghost use Rattle.book.specs.Format.{bytes_of, head_bytes, head_size, told};
 ghost use Rattle.book.specs.Theorems.{ReadsBackAnywhere};
 
 use crate::account::Account;
+use crate::lawful::LawfulAccount;
 use crate::packed::{HEAD_SIZE, account_size, pack_all, writes_place};
 use crate::sum::last_byte;
 use byteorder::{BigEndian, ByteOrder};
@@ -18,43 +18,44 @@ pub const MARK: [u8; 2] = [0xC3, 0x3C];
 impl Account<'_> {
     // Writes the account to the start of the buffer and answers its length. Refuses an unlawful account, then a buffer
     // that is too short; a refusal leaves the buffer as it was.
+    #[tactic(auto, using(crate::proofs::Writing::reads_back_anywhere))]
     pub fn write(&self, buffer: &mut [u8]) -> Result<usize, BookFault>
         ensures value { result ≡ faulted 0 (writing (told self.now) (length buffer.old)) }
         ensures after { buffer.new ≡ buffer_after (told self.now) buffer.old }
         ensures back { is_ok result ≡ true → ReadsBackAnywhere (told self.now) }
     {
-        if !self.is_lawful() {
+        let Some(account) = self.lawful() else {
             return Err(BookFault::new(Refusal::Unlawful, 0));
-        }
-        let size = self.size();
+        };
+        let size = account.size();
         if buffer.len() < size {
             return Err(BookFault::new(Refusal::TooShort, 0));
         }
-        self.put(buffer);
+        account.put(buffer);
         Ok(size)
     }
+}
 
+impl LawfulAccount<'_> {
     // How many bytes the account has.
     #[tactic(auto, using(crate::proofs::RoundTrip::takes_its_size))]
     pub(crate) fn size(&self) -> usize
-        requires { lawful (told self.now) ≡ true }
-        ensures { result ≡ length (bytes_of (told self.now)) }
+        ensures { result ≡ length (bytes_of (told self.now.account)) }
     {
-        account_size(self.readings.len(), self.writes.len())
+        account_size(self.account.readings.len(), self.account.writes.len())
     }
 
     // Puts the account's bytes to the start of the buffer.
     #[tactic(auto, using(crate::proofs::RoundTrip::takes_its_size))]
     fn put(&self, buffer: &mut [u8])
-        requires lawfully { lawful (told self.now) ≡ true }
-        requires fits { length (bytes_of (told self.now)) ≤ length buffer.old }
-        ensures { buffer.new ≡ overwritten (bytes_of (told self.now)) buffer.old }
+        requires { length (bytes_of (told self.now.account)) ≤ length buffer.old }
+        ensures { buffer.new ≡ overwritten (bytes_of (told self.now.account)) buffer.old }
     {
         self.put_head(buffer);
-        pack_all(self.readings, &mut buffer[HEAD_SIZE..]);
+        pack_all(self.account.readings, &mut buffer[HEAD_SIZE..]);
         pack_all(
-            self.writes,
-            &mut buffer[writes_place(self.readings.len())..],
+            self.account.writes,
+            &mut buffer[writes_place(self.account.readings.len())..],
         );
         let last = self.size() - 1;
         buffer[last] = last_byte(&buffer[..last]);
@@ -62,15 +63,14 @@ impl Account<'_> {
 
     // Puts the mark, the counts, low, high and timestamp before the readings.
     fn put_head(&self, buffer: &mut [u8])
-        requires lawfully { lawful (told self.now) ≡ true }
-        requires fits { head_size ≤ length buffer.old }
-        ensures { buffer.new ≡ overwritten (head_bytes (told self.now)) buffer.old }
+        requires { head_size ≤ length buffer.old }
+        ensures { buffer.new ≡ overwritten (head_bytes (told self.now.account)) buffer.old }
     {
         buffer[..2].copy_from_slice(&MARK);
-        buffer[2] = self.readings.len() as u8;
-        buffer[3] = self.writes.len() as u8;
-        BigEndian::write_u64(&mut buffer[4..], self.interval.low);
-        BigEndian::write_u64(&mut buffer[12..], self.interval.high);
-        BigEndian::write_u64(&mut buffer[20..], self.timestamp);
+        buffer[2] = self.account.readings.len() as u8;
+        buffer[3] = self.account.writes.len() as u8;
+        BigEndian::write_u64(&mut buffer[4..], self.account.interval.low);
+        BigEndian::write_u64(&mut buffer[12..], self.account.interval.high);
+        BigEndian::write_u64(&mut buffer[20..], self.account.timestamp);
     }
 }

@@ -6,7 +6,7 @@ use crate::interval::Interval;
 use std::fmt;
 
 // A version's value, its timestamp, and its promise: the last time at which that version is known to be current.
-#[derive(Clone, Copy, PartialEq, Eq, Debug)]
+#[derive(Clone, Copy, Default, PartialEq, Eq, Debug)]
 pub struct Reading {
     pub value: u32,
     pub timestamp: u64,
@@ -14,7 +14,7 @@ pub struct Reading {
 }
 
 // A reading that a chain made: on which worker, of which key.
-#[derive(Clone, Copy, PartialEq, Eq, Debug)]
+#[derive(Clone, Copy, Default, PartialEq, Eq, Debug)]
 pub struct ChainReading {
     pub worker: u8,
     pub key: u8,
@@ -22,7 +22,7 @@ pub struct ChainReading {
 }
 
 // A key and the value that it is to have.
-#[derive(Clone, Copy, PartialEq, Eq, Debug)]
+#[derive(Clone, Copy, Default, PartialEq, Eq, Debug)]
 pub struct Write {
     pub key: u8,
     pub value: u32,

@@ -1,10 +1,7 @@
--- The list begins with the records so far, and the rest of the bytes stands behind them.
-use Rattle.std.proofs.Common.{◌≡◌, ◌*◌, take, drop}
+-- The list has the records so far.
+use Rattle.std.proofs.Common.{◌≡◌}
 use Rattle.book.specs.Bytes.{records_from}
 use Rattle.book.proofs.packed.unpack_all.Given as goal
 
-abbrev pub invariant-loop-record : goal.invariant-loop-record
-invariant-loop-record g l =
-    let t = g.T.Packed in
-    (l.rest ≡ drop (t.SIZE * l.record-index) l.bytes)
-    × (take l.record-index l.into ≡ records_from t.unpacked t.SIZE l.record-index l.bytes)
+abbrev pub invariant-loop-i : goal.invariant-loop-i
+invariant-loop-i g l = l.records.items ≡ records_from g.T.Packed.unpacked g.T.Packed.SIZE l.i l.bytes

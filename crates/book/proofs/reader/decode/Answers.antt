@@ -1,9 +1,9 @@
 -- The parts that are read make up the account that the bytes tell.
 use Rattle.std.proofs.Common.{◌+◌, ◌*◌, drop, ap, ◌∙◌, arith}
+use Rattle.std.proofs.lemmas.List.{take_rest}
 use Rattle.book.specs.Bytes.{records_from}
 use Rattle.book.specs.Format.{reading_from, write_from}
 use Rattle.book.proofs.Numbers.{big_number_at}
-use Rattle.book.proofs.Reading.{filled}
 use Rattle.book.proofs.reader.decode.Goals as goal
 
 pub returns : goal.returns
@@ -12,11 +12,13 @@ returns c =
     let n = c.args.counts.readings in
     let m = c.args.counts.writes in
     let readings =
-    filled reading_from 22 28 n bs _ _ (omega (arith, c.requires.readings)) c.unpack_all.ensures
+    c.unpack_all.ensures
+    ∙ ap (records_from reading_from 22 n) (take_rest bs 28)
     ∙ ap (λ k. records_from reading_from 22 k.readings (drop 28 bs)) c.requires.counts in
     let writes =
-    filled write_from 5 c.writes_place-behind.result m bs _ _ (omega (arith, c.requires.writes)) c.unpack_all-2.ensures
-    ∙ ap (λ at. records_from write_from 5 m (drop at bs)) c.writes_place-behind.ensures
+    c.unpack_all-2.ensures
+    ∙ ap (records_from write_from 5 m) (take_rest bs c.writes_place.result)
+    ∙ ap (λ at. records_from write_from 5 m (drop at bs)) c.writes_place.ensures
     ∙ ap (λ k. records_from write_from 5 k.writes (drop (28 + 22 * k.readings) bs)) c.requires.counts in
     λ i.
     record {

@@ -2,11 +2,11 @@
 use Rattle.std.proofs.Common.{[], ◌∷◌, ◌++◌, length, drop, refl, ap, arith}
 use Rattle.book.specs.Bytes.{big_endian}
 use Rattle.book.proofs.Placing.{number_more, one_more}
-use Rattle.book.proofs.account.Account.put_head.Goals as goal
+use Rattle.book.proofs.lawful.LawfulAccount.put_head.Goals as goal
 
 pub returns : goal.returns
 returns c =
-    let a = c.args.self.now in
+    let a = c.args.self.now.account in
     let old = c.args.buffer.now in
     let mark = 0xC3 ∷ 0x3C ∷ [] in
     let counts = mark ++ (length a.readings.now ∷ length a.writes.now ∷ []) in
