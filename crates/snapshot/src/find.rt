@@ -20,7 +20,7 @@ pub fn find<K: Copy, T: Keyed<K>>(records: &[T], key: K) -> Option<usize>
     records.iter().position(|record| record.has_key(key))
 }
 
-// Each kind of record says where its key is.
+// An implementation for each kind of record, which names the field.
 
 impl Keyed<u8> for Write {
     ghost named = { λ w k. (w.key == k) };

@@ -1,6 +1,6 @@
 // An interval of times, both ends included: the stretch in which all readings of a chain's leg are known to agree.
-ghost use Rattle.std.specs.Prelude.{◌≡◌};
-ghost use Rattle.snapshot.specs.Intervals.{meets_reading, narrowed, joined_or_refused, MeetsMeans, NarrowedMeans, JoinedMeans};
+ghost use Rattle.std.specs.Prelude.{◌≡◌, min, max};
+ghost use Rattle.snapshot.specs.Intervals.{from_to, meets_reading, narrowed, joined_or_refused, MeetsMeans, NarrowedMeans, JoinedMeans};
 
 use crate::account::Reading;
 use crate::fault::Refusal;
@@ -32,10 +32,10 @@ impl Interval {
         ensures value { result ≡ narrowed self reading }
         ensures means { NarrowedMeans self reading result }
     {
-        Interval {
-            low: self.low.max(reading.timestamp),
-            high: self.high.min(reading.promise),
-        }
+        self.common(Interval {
+            low: reading.timestamp,
+            high: reading.promise,
+        })
     }
 
     // The times of both intervals; refused where they have none in common.
@@ -43,12 +43,21 @@ impl Interval {
         ensures value { result ≡ joined_or_refused self other }
         ensures means { JoinedMeans self other result }
     {
-        let low = self.low.max(other.low);
-        let high = self.high.min(other.high);
-        if low <= high {
-            Ok(Interval { low, high })
+        let both = self.common(other);
+        if both.low <= both.high {
+            Ok(both)
         } else {
             Err(Refusal::IntervalsApart)
+        }
+    }
+
+    // From the larger low end to the smaller high end: the times of both, if they have any in common.
+    fn common(self, other: Interval) -> Interval
+        ensures { result ≡ from_to (max self.low other.low) (min self.high other.high) }
+    {
+        Interval {
+            low: self.low.max(other.low),
+            high: self.high.min(other.high),
         }
     }
 }

@@ -18,7 +18,7 @@ use Rattle.table_store.proofs.Memory.{fit_room, unfit_room}
 use Rattle.table_store.proofs.Uniqueness.{one_layout}
 use Rattle.table_store.specs.PerKeys.{per_key}
 use Rattle.table_store.specs.Records.{Listing, after_writes, drop_firsts, excess, first_records, if_fits, no_record, of_key, with_all, with_records, without_outdated}
-use Rattle.table_store.specs.Stores.{meaning_of}
+use Rattle.table_store.specs.Stores.{HoldsVersions, meaning_of}
 use Rattle.table_store.specs.Tables.{HeldIn, LaidOut, capacity_of, in_order, is_table_size, is_zero, listing_in, room_in, shown_in, sound_record, sound_table, table_meaning}
 use Rattle.table_store.specs.declared.record.Record.{Record}
 use Rattle.table_store.specs.declared.slice.RecordSlice.{RecordSlice}
@@ -99,6 +99,10 @@ pub held : (l : RecordSlice) (last : ℕ) → sound_table l.memory.now l.kept la
 held l last s fit =
     let laid = laid_out l last s fit in
     (laid, λ other long there. one_layout (table_meaning l.memory.now l.kept last) l.memory.now other long laid there)
+
+-- so every table holds what it means
+pub table_held : (t : Table) → HoldsVersions t
+table_held t = held t.list t.last t.sound
 
 -- the list of a table has changed to l, and the last timestamp to `last`, so that the meaning is m
 pub record Changed (t : Table) (l : RecordSlice) (last : ℕ) (m : Meaning) : Type 0 where

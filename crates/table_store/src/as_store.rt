@@ -67,7 +67,6 @@ impl<'a> Table<'a> {
         ensures answer { result ≡ if_fits (versions_kept (with_writes table_depth update.entry.timestamp update.entry.writes.now (meaning_of self.old))) (meaning_of self.old).capacity }
         ensures after { OnOk result (meaning_of self.new ≡ with_writes table_depth update.entry.timestamp update.entry.writes.now (meaning_of self.old)) }
         ensures unchanged { OnErr result (self.new ≡ self.old) }
-        ensures laid { OnOk result (HoldsVersions self.new) }
         ensures alone { LeavesUnfit self.old self.new }
     {
         write_all(&mut self.list, update, Self::DEPTH)?;
@@ -78,7 +77,6 @@ impl<'a> Table<'a> {
     // Drops of each key what is outdated at this time.
     fn forget(&mut self, time: u64)
         ensures after { meaning_of self.new ≡ pruned_at time (meaning_of self.old) }
-        ensures laid { HoldsVersions self.new }
         ensures alone { LeavesUnfit self.old self.new }
     {
         if self.list.is_fit() {

@@ -86,7 +86,7 @@ fn count_left(records: &[Record], mut to_drop: PerKey) -> usize
     ensures value { result ≡ length (drop_firsts (number_for to_drop) records.now) }
     ensures within { result ≤ length records.now }
 {
-    // a loop: nothing is known of a `filter` whose closure changes what it has captured
+    // a loop: how many pass a `filter` whose closure changes what it has captured is not known
     let mut left = 0;
     for record in records {
         if !to_drop.take_one(record.key) {

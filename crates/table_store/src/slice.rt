@@ -60,6 +60,7 @@ impl RecordList for RecordSlice<'_> {
     fn push(&mut self, new: Record) {
         let end = self.kept;
         if end < self.room() {
+            // first the count, so that zeros follow the records at each step
             self.kept = end + 1;
             self.memory[end] = new;
         }

@@ -1,6 +1,6 @@
 -- Fit memory loses what is outdated; unfit memory is as it was, and has nothing that is outdated.
 use Rattle.std.proofs.Common.{sym}
-use Rattle.table_store.proofs.Tabling.{held, table_prune, table_prune_unfit}
+use Rattle.table_store.proofs.Tabling.{table_prune, table_prune_unfit}
 use Rattle.table_store.proofs.table.Table.forget.Goals as goal
 
 pub invariant_of-self : goal.invariant_of-self
@@ -9,10 +9,6 @@ invariant_of-self c =
 
 pub returns-then-is_fit-clause-after : goal.returns-then-is_fit-clause-after
 returns-then-is_fit-clause-after c = (table_prune c.args.self.now c.args.time c.drop_outdated.new.log (sym c.if-is_fit.ensures) c.drop_outdated.ensures).meaning
-
-pub returns-then-is_fit-clause-laid : goal.returns-then-is_fit-clause-laid
-returns-then-is_fit-clause-laid c =
-    held c.drop_outdated.new.log c.args.self.now.last (table_prune c.args.self.now c.args.time c.drop_outdated.new.log (sym c.if-is_fit.ensures) c.drop_outdated.ensures).sound
 
 pub returns-else-is_fit-clause-after : goal.returns-else-is_fit-clause-after
 returns-else-is_fit-clause-after c = table_prune_unfit c.args.self.now c.args.time (sym c.if-is_fit.ensures)

@@ -1,7 +1,7 @@
 -- Writes that were taken leave the list that the rules draw, in memory that is fit; without room the table is as it was.
 use Rattle.std.proofs.Common.{◌≡◌, Err, ◌∙◌, refl, rules}
 use Rattle.table_store.proofs.Sameness.{same_on_err}
-use Rattle.table_store.proofs.Tabling.{commit_room, held, table_write}
+use Rattle.table_store.proofs.Tabling.{commit_room, table_write}
 use Rattle.table_store.proofs.table.Table.write.Goals as goal
 
 pub returns-in_err-write_all-clause-answer : goal.returns-in_err-write_all-clause-answer
@@ -25,8 +25,3 @@ pub returns-clause-after : goal.returns-clause-after
 returns-clause-after c =
     let ok = c.in_ok-write_all.ensures in
     (table_write c.args.self.now c.args.update.timestamp c.args.update.writes.now c.args.update.fit c.requires ok.answer c.write_all.new.log ok.after).meaning
-
-pub returns-clause-laid : goal.returns-clause-laid
-returns-clause-laid c =
-    let ok = c.in_ok-write_all.ensures in
-    held c.write_all.new.log c.args.update.timestamp (table_write c.args.self.now c.args.update.timestamp c.args.update.writes.now c.args.update.fit c.requires ok.answer c.write_all.new.log ok.after).sound
