@@ -67,6 +67,7 @@ impl LawfulAccount<'_> {
         ensures { buffer.new ≡ overwritten (head_bytes (told self.now.account)) buffer.old }
     {
         buffer[..2].copy_from_slice(&MARK);
+        // `as`, since the lists of a lawful account are short
         buffer[2] = self.account.readings.len() as u8;
         buffer[3] = self.account.writes.len() as u8;
         BigEndian::write_u64(&mut buffer[4..], self.account.interval.low);

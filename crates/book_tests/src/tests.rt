@@ -452,11 +452,11 @@ fn last_byte_is_the_exclusive_or(rt: HostRuntime) {
     assert_eq!(rt; last_byte(&SHORTEST), 0);
 }
 
-fn lists(rt: &impl Abort, heap: std::alloc::Global, book: &[u8], text: &str) -> Result<(), Fail> {
-    let mut heads = Vec::new(heap);
+fn lists(rt: &(impl Abort + AllocGlobal), book: &[u8], text: &str) -> Result<(), Fail> {
+    let mut heads = Vec::new(rt.alloc());
     let ending = read_book(book, &mut heads)?;
     assert_eq!(rt;
-        listing_text(heap, heads.as_slice(), ending)?.as_str(),
+        listing_text(rt.alloc(), heads.as_slice(), ending)?.as_str(),
         text
     );
     Ok(())
@@ -464,22 +464,19 @@ fn lists(rt: &impl Abort, heap: std::alloc::Global, book: &[u8], text: &str) -> 
 
 #[test]
 fn books_are_listed(rt: HostRuntime) -> Result<(), Fail> {
-    let heap = rt.alloc();
-    lists(&rt, heap, &[], "end 0\n")?;
-    lists(&rt, heap, &SHORTEST, "0 281474976710656 0 0 0\nend 1\n")?;
-    lists(&rt, heap, &SHORTEST[0..28], "bad 18 0\n")?;
-    let mut two = SHORTEST.to_vec(heap)?;
+    lists(&rt, &[], "end 0\n")?;
+    lists(&rt, &SHORTEST, "0 281474976710656 0 0 0\nend 1\n")?;
+    lists(&rt, &SHORTEST[0..28], "bad 18 0\n")?;
+    let mut two = SHORTEST.to_vec(rt.alloc())?;
     two.extend_from_slice(&SAMPLE_BYTES)?;
     lists(
         &rt,
-        heap,
         two.as_slice(),
         "0 281474976710656 0 0 0\n20 30 51 3 2\nend 2\n",
     )?;
     two.push(0xC3)?;
     lists(
         &rt,
-        heap,
         two.as_slice(),
         "0 281474976710656 0 0 0\n20 30 51 3 2\nbad 18 134\n",
     )

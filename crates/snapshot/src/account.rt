@@ -28,8 +28,8 @@ pub struct Write {
     pub value: u32,
 }
 
-// The five numbers of a committed chain's account: its final interval, its timestamp, and how many readings and writes
-// its two lists have.
+// The five numbers of a committed chain's account: its final interval, its timestamp (0 if nothing was written), and how
+// many readings and writes its two lists have. The lists are a caller's.
 #[derive(Clone, Copy, PartialEq, Eq, Debug)]
 pub struct AccountHead {
     pub interval: Interval,

@@ -30,7 +30,8 @@ pub trait Store: Reads {
 
     const DEPTH: usize;
 
-    // The depth, as a number that contracts can speak of: `DEPTH`.
+    // The depth, as a number that contracts can speak of: `DEPTH`. It has no body here: Rattle gives a constant no clauses
+    // in an implementation with a lifetime.
     fn most_versions() -> usize
         ensures { result ≡ depth };
 

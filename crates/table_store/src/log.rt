@@ -103,7 +103,8 @@ fn drop_oldest<L: RecordList>(log: &mut L, mut to_drop: PerKey)
     log.retain(|record| !to_drop.take_one(record.key));
 }
 
-// Adds a record for each write of the update, as far as there is room.
+// Adds a record for each write of the update, as far as there is room. This and `start` are two loops: over any iterator
+// one would need clauses on it that are longer than both.
 fn append<L: RecordList>(log: &mut L, update: Update)
     ensures { L.listing log.new ≡ with_all (map (written update.entry.timestamp) update.entry.writes.now) (L.listing log.old) }
 {

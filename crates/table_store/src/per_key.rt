@@ -20,7 +20,7 @@ impl PerKey {
         }
     }
 
-    // The number for this key; 0 where there is no such key.
+    // The number for this key; 0 where there is no such key, which has none of anything.
     pub(crate) fn get(&self, key: u8) -> usize
         ensures { result ≡ number_for self.now key }
     {
