@@ -16,7 +16,7 @@ pub fn read_book(book: &[u8], heads: &mut Vec<AccountHead>) -> Result<Option<Boo
     ensures listed { IfOk result (λ e. ListedBehind heads.old.items heads.new.items book.now e) }
     ensures succeeds { vec_len heads.old + length book.now / size_of 0 0 ≤ vec_capacity heads.old → is_ok result ≡ true }
 {
-    // a `while`: how far the next account reaches is known once it is read
+    // a `while`: how far the next account reaches is known only once it is read
     let mut start = 0;
     while start < book.len() {
         match read_head(book, start) {

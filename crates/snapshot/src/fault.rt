@@ -47,8 +47,8 @@ pub enum Layer {
     Book,
 }
 
-// What stands in a fault for a place, leg or key that the call lacks or has several of. A number and no
-// `Option`, by the rules: a call may also name 255.
+// What stands in a fault for a place, leg or key that the call lacks or has several of. A number and no `Option`, by the
+// rules: a call may also name 255.
 pub const NOT_NAMED: u8 = 255;
 
 // A refusal, the layer that refused first, and the place, leg and key as the call named them.

@@ -30,7 +30,7 @@ pub trait Store: Reads {
 
     const DEPTH: usize;
 
-    // The depth, as a number that contracts can speak of: `DEPTH`. It has no body here: Rattle gives a constant no clauses
+    // Answers `DEPTH`; the clause says that this is the depth. No body stands here, since Rattle gives a constant no clauses
     // in an implementation with a lifetime.
     fn most_versions() -> usize
         ensures { result ≡ depth };

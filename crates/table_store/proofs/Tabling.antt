@@ -19,7 +19,7 @@ use Rattle.table_store.proofs.Uniqueness.{one_layout}
 use Rattle.table_store.specs.PerKeys.{per_key}
 use Rattle.table_store.specs.Records.{Listing, after_writes, drop_firsts, excess, first_records, if_fits, no_record, of_key, with_all, with_records, without_outdated}
 use Rattle.table_store.specs.Stores.{HoldsVersions, meaning_of}
-use Rattle.table_store.specs.Tables.{HeldIn, LaidOut, capacity_of, in_order, is_table_size, is_zero, listing_in, room_in, shown_in, sound_record, sound_table, table_meaning}
+use Rattle.table_store.specs.Tables.{HeldIn, LaidOut, capacity_of, in_order, is_table_size, is_zero, listing_in, room_in, shown_in, sound_record, sound_table, table_meaning, zeros_after}
 use Rattle.table_store.specs.declared.record.Record.{Record}
 use Rattle.table_store.specs.declared.slice.RecordSlice.{RecordSlice}
 use Rattle.table_store.specs.declared.table.Table.{Table}
@@ -80,29 +80,28 @@ keys_in last (r ∷ rs) s =
     let parts = and_parts (sound_record last r) (list_all (sound_record last) rs) s in
     ((and_parts (is_key r.key) (nat_le r.timestamp last) parts.0).0, keys_in last rs parts.1)
 
-laid_out : (l : RecordSlice) (last : ℕ) → sound_table l.memory.now l.kept last ≡ true → is_table_size (length l.memory.now) ≡ true → LaidOut (table_meaning l.memory.now l.kept last) l.memory.now
-laid_out l last s fit =
-    let mem = l.memory.now in
-    let n = l.kept in
+laid_out : (mem : List Record) (n last : ℕ) → sound_table mem n last ≡ true → zeros_after mem n ≡ true → is_table_size (length mem) ≡ true → LaidOut (table_meaning mem n last) mem
+laid_out mem n last s zeros fit =
     let sound = sound_parts mem n last s in
     let shown = shown_fit mem n fit in
     let long : length (drop n mem) ≡ length mem - length (take n mem) = omega (arith, length-drop n mem, length-take n mem) in
     record {
       front = take n mem;
-      whole = sym (take-append-drop n mem) ∙ ap (λ xs. take n mem ++ xs) (zeros_are (drop n mem) (l.tidy fit) ∙ ap (λ k. replicate k no_record) long);
+      whole = sym (take-append-drop n mem) ∙ ap (λ xs. take n mem ++ xs) (zeros_are (drop n mem) zeros ∙ ap (λ k. replicate k no_record) long);
       ordered = ap in_order (sym shown) ∙ sound.order;
       in_range = keys_in last (take n mem) (ap (list_all (sound_record last)) (sym shown) ∙ sound.records);
       versions = λ k. ap (of_key k) (sym shown);
     }
 
-pub held : (l : RecordSlice) (last : ℕ) → sound_table l.memory.now l.kept last ≡ true → HeldIn l.memory.now l.kept last
-held l last s fit =
-    let laid = laid_out l last s fit in
-    (laid, λ other long there. one_layout (table_meaning l.memory.now l.kept last) l.memory.now other long laid there)
+-- fit memory whose records are sound and in order, with zeros behind them, holds what it means
+pub held : (mem : List Record) (n last : ℕ) → sound_table mem n last ≡ true → (is_table_size (length mem) ≡ true → zeros_after mem n ≡ true) → HeldIn mem n last
+held mem n last s tidy fit =
+    let laid = laid_out mem n last s (tidy fit) fit in
+    (laid, λ other long there. one_layout (table_meaning mem n last) mem other long laid there)
 
--- so every table holds what it means
+-- so every table does
 pub table_held : (t : Table) → HoldsVersions t
-table_held t = held t.list t.last t.sound
+table_held t = held t.list.memory.now t.list.kept t.last t.sound t.list.tidy
 
 -- the list of a table has changed to l, and the last timestamp to `last`, so that the meaning is m
 pub record Changed (t : Table) (l : RecordSlice) (last : ℕ) (m : Meaning) : Type 0 where
@@ -280,6 +279,10 @@ module _ (mem : List Record) (n : ℕ) (shown : shown_in mem n ≡ first_records
 
   pub new_meaning : (size : ℕ) → length mem ≡ size → table_meaning mem n 0 ≡ new_store (capacity_of size)
   new_meaning size long = meaning_at mem n 0 (capacity_of size) (first_records keys) (new_store 0).kept (ap capacity_of long) shown first_kept
+
+  -- so it is sound, means a new store, and holds one
+  pub new_in_fit : (size : ℕ) → length mem ≡ size → (is_table_size (length mem) ≡ true → zeros_after mem n ≡ true) → (sound_table mem n 0 ≡ true) × (table_meaning mem n 0 ≡ new_store (capacity_of size)) × HeldIn mem n 0
+  new_in_fit size long tidy = (new_sound 0, new_meaning size long, held mem n 0 (new_sound 0) tidy)
 
 -- A question.
 

@@ -8,8 +8,8 @@ ghost use Rattle.table_store.specs.Tables.{is_table_size, listing_in, room_in, z
 use crate::record::{NO_RECORD, Record, RecordList};
 use snapshot::limits::{LEAST_RECORDS, MOST_RECORDS};
 
-// The first records of memory that a caller lends, as many as are kept. In fit memory zeros follow them, and unfit memory has room for
-// none.
+// The first records of memory that a caller lends, as many as are kept. In fit memory zeros follow them; unfit memory has
+// room for none.
 #[derive(Drop)]
 pub(crate) struct RecordSlice<'a> {
     pub(crate) memory: &'a mut [Record],
