@@ -108,8 +108,8 @@ impl Packed for Write {
     }
 }
 
-// Puts records one after another to the front of the room. By number, since nothing is known of what is lent to
-// `chunks_exact_mut` once it has been written to; so `unpack_all` goes by number too.
+// Puts records one after another to the front of the room. By number, since of what is lent to
+// `chunks_exact_mut` only the length is known afterwards; and so does `unpack_all`.
 pub(crate) fn pack_all<T: Packed>(records: &[T], room: &mut [u8])
     requires { T.SIZE * length records.now ≤ length room.old }
     ensures { room.new ≡ overwritten (flat_map T.packed records.now) room.old }

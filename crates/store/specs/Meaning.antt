@@ -24,7 +24,7 @@ version_of t x = record { timestamp = t; value = x }
 
 -- a new store keeps of each key one version, value 0 at time 0
 abbrev pub new_store : ℕ → Meaning
-new_store c = record { last = 0; capacity = c; kept = λ k. (if is_key k then version_of 0 0 ∷ [] else []) }
+new_store c = record { last = 0; capacity = c; kept = λ k. if is_key k then version_of 0 0 ∷ [] else [] }
 
 -- a store's faults: those of a question name its key, those of a commit name nothing
 abbrev pub question_fault : Refusal → ℕ → Fault
