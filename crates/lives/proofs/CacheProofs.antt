@@ -1,5 +1,5 @@
 -- The caches that hold keep their laws.
-use Rattle.std.proofs.Common.{◌≡◌, ℕ, ◌-◌, true, eqb, ltb, [], ◌∷◌, ◌++◌, length, Some, None, Option, refl, inl, inr, arith}
+use Rattle.std.proofs.Common.{◌≡◌, ℕ, ◌-◌, true, ◌==◌, nat_lt, [], ◌∷◌, ◌++◌, length, Some, None, Option, refl, inl, inr, arith}
 use Rattle.std.specs.List.{ContainsAt as Has, AllByRecursion}
 use Rattle.std.proofs.ByRecursion.{All-drop, all_has_itself, All-push, All-weaker, has_append_right}
 use Rattle.std.proofs.lemmas.Bool.{cond_both, eqb-true}
@@ -19,7 +19,7 @@ use Rattle.lives.specs.declared.records.Notice.{Notice}
 look_up_finds : (k : ℕ) (c : Cache) (e : CacheEntry) → look_up k c ≡ Some e → Has c e × (e.key ≡ k)
 look_up_finds k [] e = λ h. absurd (grind arith)
 look_up_finds k (x ∷ xs) e =
-    cond_both (eqb x.key k) _ _ (λ o. o ≡ Some e → Has (x ∷ xs) e × (e.key ≡ k))
+    cond_both (x.key == k) _ _ (λ o. o ≡ Some e → Has (x ∷ xs) e × (e.key ≡ k))
     (λ t h. ((0, omega arith, λ _. cc), grind (arith, nat_tests)))
     (λ _ h. let rest = look_up_finds k xs e h in (has_append_right (x ∷ []) xs e rest.0, rest.1))
 
@@ -41,7 +41,7 @@ answer_is i k c e h =
 pub all_without : (P : CacheEntry → Type 0) (k : ℕ) (c : Cache) → AllByRecursion P c → AllByRecursion P (without k c)
 all_without P k [] all = tt
 all_without P k (e ∷ es) all =
-    cond_both (eqb e.key k) _ _ (AllByRecursion P) (λ _. all.1) (λ _. (all.0, all_without P k es all.1))
+    cond_both (e.key == k) _ _ (AllByRecursion P) (λ _. all.1) (λ _. (all.0, all_without P k es all.1))
 
 all_used : (P : CacheEntry → Type 0) (e : CacheEntry) (c : Cache) → AllByRecursion P c → P e → AllByRecursion P (used_latest e c)
 all_used P e c all here =
@@ -51,7 +51,7 @@ all_used P e c all here =
 pub all_noticed : (P Q : CacheEntry → Type 0) (n : Notice) → ((e : CacheEntry) → P e → Q e) → ((e : CacheEntry) → e.key ≡ n.key → P e → Q (entry_of e.key (noticed n.reading e.reading))) → (c : Cache) → AllByRecursion P c → AllByRecursion Q (with_notice n c)
 all_noticed P Q n keep change [] all = tt
 all_noticed P Q n keep change (e ∷ es) all =
-    cond_both (eqb e.key n.key) _ _ (AllByRecursion Q)
+    cond_both (e.key == n.key) _ _ (AllByRecursion Q)
     (λ t. (change e (eqb-true _ _ t) all.0, All-weaker P Q keep es all.1))
     (λ _. (keep e all.0, all_noticed P Q n keep change es all.1))
 
@@ -69,8 +69,8 @@ told_change : (n : Notice) (c : Cache) (e : CacheEntry) → e.key ≡ n.key → 
 told_change n c e same there =
     let Told : Reading → Type 0 = λ r. ToldTo c n (entry_of e.key r) in
     let widens : e.reading.timestamp ≡ n.reading.timestamp → Told (widened e.reading n.reading.promise) = λ t. inr (inr (record { old = e; there = there; same_key = same; same_time = t; now₀ = refl })) in
-    let unless_later = cond_both (eqb e.reading.timestamp n.reading.timestamp) _ _ Told (λ t. widens (eqb-true _ _ t)) (λ _. inl there) in
-    cond_both (ltb e.reading.timestamp n.reading.timestamp) _ _ Told (λ _. inr (inl (cc))) (λ _. unless_later)
+    let unless_later = cond_both (e.reading.timestamp == n.reading.timestamp) _ _ Told (λ t. widens (eqb-true _ _ t)) (λ _. inl there) in
+    cond_both (nat_lt e.reading.timestamp n.reading.timestamp) _ _ Told (λ _. inr (inl (cc))) (λ _. unless_later)
 
 -- The laws.
 

@@ -1,5 +1,5 @@
 -- Caches are in shape: at most eight entries, one for a key, in the order of their use.
-use Rattle.std.proofs.Common.{◌≡◌, ℕ, zero, suc, ◌+◌, ◌-◌, eqb, [], ◌∷◌, ◌++◌, map, length, drop, Some, refl, ap, arith}
+use Rattle.std.proofs.Common.{◌≡◌, ℕ, zero, suc, ◌+◌, ◌-◌, ◌==◌, [], ◌∷◌, ◌++◌, map, length, drop, Some, refl, ap, arith}
 use Rattle.std.proofs.ByRecursion.{All-drop, All-push}
 use Rattle.std.proofs.lemmas.List.{drop-append-le, length-drop, length-map, length_push}
 use Rattle.std.proofs.lemmas.Bool.{cond_both, eqb-true, eqb-false, ne_eqb}
@@ -26,14 +26,14 @@ apart_push (x ∷ xs) e a none =
 apart_without : (k : ℕ) (c : Cache) → Apart c → Apart (without k c)
 apart_without k [] a = tt
 apart_without k (x ∷ xs) a =
-    cond_both (eqb x.key k) _ _ Apart
+    cond_both (x.key == k) _ _ Apart
     (λ _. a.1)
     (λ _. (all_without (λ y. y.key ≡ x.key → ⊥) k xs a.0, apart_without k xs a.1))
 
 none_without : (k : ℕ) (c : Cache) → Apart c → NoneOf k (without k c)
 none_without k [] a = tt
 none_without k (x ∷ xs) a =
-    cond_both (eqb x.key k) _ _ (NoneOf k)
+    cond_both (x.key == k) _ _ (NoneOf k)
     (λ t. rw (eqb-true _ _ t) at a.0)
     (λ f. (eqb-false _ _ f, none_without k xs a.1))
 
@@ -77,7 +77,7 @@ stored_shaped s e c shaped =
 noticed_keys : (n : Notice) (c : Cache) → map (λ e. e.key) (with_notice n c) ≡ map (λ e. e.key) c
 noticed_keys n [] = refl
 noticed_keys n (x ∷ xs) =
-    cond_both (eqb x.key n.key) _ _ (λ c. map (λ e. e.key) c ≡ x.key ∷ map (λ e. e.key) xs)
+    cond_both (x.key == n.key) _ _ (λ c. map (λ e. e.key) c ≡ x.key ∷ map (λ e. e.key) xs)
     (λ _. refl)
     (λ _. ap (λ ks. x.key ∷ ks) (noticed_keys n xs))
 
@@ -87,7 +87,7 @@ none_noticed k n c none = all_noticed (λ e. e.key ≡ k → ⊥) (λ e. e.key �
 apart_noticed : (n : Notice) (c : Cache) → Apart c → Apart (with_notice n c)
 apart_noticed n [] a = tt
 apart_noticed n (x ∷ xs) a =
-    cond_both (eqb x.key n.key) _ _ Apart (λ _. a) (λ _. (none_noticed x.key n xs a.0, apart_noticed n xs a.1))
+    cond_both (x.key == n.key) _ _ Apart (λ _. a) (λ _. (none_noticed x.key n xs a.0, apart_noticed n xs a.1))
 
 noticed_shaped : (n : Notice) (c : Cache) → Shaped c → Shaped (with_notice n c)
 noticed_shaped n c s =

@@ -1,11 +1,11 @@
 -- Every call but commit keeps the invariant of a life.
-use Rattle.std.proofs.Common.{◌≡◌, ℕ, suc, ◌<◌, ◌≤◌, min, max, true, cond, ◌&&◌, eqb, leb, List, [], ◌∷◌, length, Some, None, Ok, Option, sym, refl, ap, ◌∙◌, subst, ⊎_elim, arith}
+use Rattle.std.proofs.Common.{◌≡◌, ℕ, suc, ◌<◌, ◌≤◌, min, max, true, if◌then◌else◌, ◌&&◌, ◌==◌, nat_le, List, [], ◌∷◌, length, Some, None, Ok, Option, sym, refl, ap, ◌∙◌, subst, ⊎_elim, arith}
 use Rattle.std.specs.Option.{option_or}
 use Rattle.std.specs.List.{ContainsAt as Has, AllByRecursion}
 use Rattle.std.proofs.ByRecursion.{all-has, All-weaker, has_append_right}
 use Rattle.std.proofs.lemmas.Bool.{and_parts, and_from, cond_both, eqb-true, leb-true, ltb-true, le-leb}
 use Rattle.snapshot.specs.Intervals.{from_to, meets_reading, joined_or_refused}
-use Rattle.snapshot.specs.Limits.{open_end, is_key, is_leg, is_place, is_worker}
+use Rattle.snapshot.specs.Limits.{is_key}
 use Rattle.snapshot.specs.Limits as limit
 use Rattle.snapshot.specs.declared.account.Reading.{Reading}
 use Rattle.snapshot.specs.declared.account.Write.{Write}
@@ -15,12 +15,13 @@ use Rattle.store.proofs.Standing.{prune_stands}
 use Rattle.lives.specs.Caches.{Cache, entry_of}
 use Rattle.lives.specs.Engines.{OpenLeg, running, on_worker, Chain, new_chain, Engine}
 use Rattle.lives.specs.Lives.{NewStore, ChainTold, nothing_told, history_with, store_with, told_with}
-use Rattle.lives.specs.RuleLaws.{AddedTo, WidenedBy, ToldTo, CacheLaws, WriteSetLaws}
-use Rattle.lives.specs.Rules.{Rules, CacheRules, WriteSetRules, ChainLimits, rules_with}
+use Rattle.lives.specs.RuleLaws.{AddedTo, WidenedBy, ToldTo, LawfulParts, rules_of}
+use Rattle.lives.specs.Rules.{Rules}
 use Rattle.lives.specs.Steps.{AnswerTo, Outcome, answer_in, engine_in, step, own_reading, answered_by}
 use Rattle.lives.specs.Updates.{with_at}
 use Rattle.lives.specs.declared.calls.Call.{Call}
 use Rattle.lives.specs.declared.calls.Call.TheVariants as call
+use Rattle.lives.specs.declared.limits.ChainLimits.{ChainLimits}
 use Rattle.lives.specs.declared.records.CacheEntry.{CacheEntry}
 use Rattle.lives.specs.declared.records.LegReading.{LegReading}
 use Rattle.lives.specs.declared.records.Notice.{Notice}
@@ -31,11 +32,10 @@ use Rattle.lives.proofs.Outcomes.{at_check, at_chain, at_open, at_open_leg, at_f
 use Rattle.lives.proofs.Readings.{History, TrueReading, AllTrue, AnsweredAt, widened_true, store_true}
 use Rattle.lives.proofs.Sound.{LegSound, Sound}
 
-module _ (caches : CacheRules) (write_sets : WriteSetRules) (limits : ChainLimits) where
-  -- the engine is sound after what comes of a call
-  abbrev pub After : (store : NewStore) (h : History) (told : ℕ → ChainTold) (m : Meaning) (s : Engine) (c : Call) → Outcome (AnswerTo c) → Type 0
-  After store h told m s c o =
-      Sound store limits (history_with c (answer_in o) h) (told_with c (answer_in o) told) (store_with store.depth c (answer_in o) m) (engine_in s o)
+-- the engine is sound after what comes of a call
+abbrev pub After : (limits : ChainLimits) (store : NewStore) (h : History) (told : ℕ → ChainTold) (m : Meaning) (s : Engine) (c : Call) → Outcome (AnswerTo c) → Type 0
+After limits store h told m s c o =
+    Sound store limits (history_with c (answer_in o) h) (told_with c (answer_in o) told) (store_with store.depth c (answer_in o) m) (engine_in s o)
 
 -- a join that is not refused leaves the times of both
 record Joined (i j n : Interval) : Type 0 where
@@ -45,7 +45,7 @@ record Joined (i j n : Interval) : Type 0 where
 
 joined_times : (i j n : Interval) → joined_or_refused i j ≡ Ok n → Joined i j n
 joined_times i j n =
-    cond_both (leb (max i.low j.low) (min i.high j.high)) _ _ (λ r. r ≡ Ok n → Joined i j n)
+    cond_both (nat_le (max i.low j.low) (min i.high j.high)) _ _ (λ r. r ≡ Ok n → Joined i j n)
     (λ le e.
     let same : from_to (max i.low j.low) (min i.high j.high) ≡ n = cc in
     let low : n.low ≡ max i.low j.low = sym (ap (λ x. x.low) same) in
@@ -57,7 +57,7 @@ joined_times i j n =
 own_there : (l k : ℕ) (rs : List LegReading) (r : LegReading) → own_reading l k rs ≡ Some r → Has rs r × (r.made.key ≡ k)
 own_there l k [] r = λ e. absurd (grind arith)
 own_there l k (x ∷ xs) r =
-    cond_both (eqb x.leg l && eqb x.made.key k) _ _ (λ o. o ≡ Some r → Has (x ∷ xs) r × (r.made.key ≡ k))
+    cond_both (x.leg == l && x.made.key == k) _ _ (λ o. o ≡ Some r → Has (x ∷ xs) r × (r.made.key ≡ k))
     (λ t e.
     let same : x ≡ r = cc in
     let first : 0 < length (x ∷ xs) = omega arith in
@@ -66,17 +66,20 @@ own_there l k (x ∷ xs) r =
     (λ _ e. let rest = own_there l k xs r e in (has_append_right (x ∷ []) xs r rest.0, rest.1))
 
 module _
-    (caches : CacheRules) (cache_laws : CacheLaws caches) (write_sets : WriteSetRules) (write_laws : WriteSetLaws write_sets) (limits : ChainLimits)
-    (store : NewStore) (h : History) (told : ℕ → ChainTold) (m : Meaning) (s : Engine) (sound : Sound store limits h told m s)
+    (parts : LawfulParts)
+    (store : NewStore) (h : History) (told : ℕ → ChainTold) (m : Meaning) (s : Engine) (sound : Sound store parts.limits h told m s)
   where
     abbrev rules : Rules
-    rules = rules_with caches write_sets limits
+    rules = rules_of parts
+
+    abbrev limits : ChainLimits
+    limits = parts.limits
 
     abbrev last : ℕ
     last = s.store.last
 
     abbrev Kept : (c : Call) → Outcome (AnswerTo c) → Type 0
-    Kept c o = After caches write_sets limits store h told m s c o
+    Kept c o = After limits store h told m s c o
 
     pub begin_keeps : (p w : ℕ) → Kept (call.Begin p w) (step rules store.depth (call.Begin p w) s)
     begin_keeps p w =
@@ -119,7 +122,7 @@ module _
         let before = chain_at store limits h told m s sound p chain here in
         let first = leg_sound last limits (told p) chain before.legs l leg is_open in
         let second = leg_sound last limits (told p) chain before.legs j other other_open in
-        let ws : List Write = write_sets.after_join leg.writes other.writes in
+        let ws : List Write = parts.write_sets.after_join leg.writes other.writes in
         let new : OpenLeg = record { worker = w; interval = i; writes = ws } in
         let written : ℕ → Option ℕ = λ k. option_or ((told p).written j k) ((told p).written l k) in
         let new_sound : LegSound last limits chain.readings written new = record {
@@ -129,9 +132,9 @@ module _
           from_known = omega (arith, both.low, first.from_known, second.from_known);
           low_read = omega (arith, both.low, first.low_read, second.low_read);
           high_read = omega (arith, both.high, first.high_read, second.high_read);
-          rising = write_laws.join_rises leg.writes other.writes first.rising second.rising;
+          rising = parts.write_set_laws.join_rises leg.writes other.writes first.rising second.rising;
           few_writes = leb-true _ _ few;
-          as_told = λ k. write_laws.join_has leg.writes other.writes k first.rising second.rising
+          as_told = λ k. parts.write_set_laws.join_has leg.writes other.writes k first.rising second.rising
               ∙ ap (λ o. option_or o (written_to k leg.writes)) (second.as_told k)
               ∙ ap (λ o. option_or ((told p).written j k) o) (first.as_told k);
         } in
@@ -149,9 +152,9 @@ module _
         let before = chain_at store limits h told m s sound p chain here in
         let of_leg = leg_sound last limits (told p) chain before.legs l leg is_open in
         place_sound store limits h told m s sound p _ (Some _) (write_leg_sound h last limits (told p) chain before l leg is_open _ (with_at k (Some x) ((told p).written l))
-        (write_laws.write_rises w leg.writes (and_parts _ _ range).1 of_leg.rising)
+        (parts.write_set_laws.write_rises w leg.writes (and_parts _ _ range).1 of_leg.rising)
         (leb-true _ _ few)
-        (λ i. write_laws.write_has w leg.writes i of_leg.rising ∙ ap (λ o. cond (eqb i k) (Some x) o) (of_leg.as_told i))))))
+        (λ i. parts.write_set_laws.write_has w leg.writes i of_leg.rising ∙ ap (λ o. if i == k then (Some x) else o) (of_leg.as_told i))))))
 
     pub abandon_keeps : (p : ℕ) → Kept (call.Abandon p) (step rules store.depth (call.Abandon p) s)
     abandon_keeps p =
@@ -167,7 +170,7 @@ module _
         All-weaker (AddedTo c e) P (λ x from. ⊎_elim (λ has. all-has P c x all has) (λ same. subst P (sym same) true_e) from) c' added
 
     -- so does a true notice
-    told_true : (n : Notice) (c : Cache) → TrueReading h last n.key n.reading → AllTrue h last c → AllTrue h last (caches.after_notice n c)
+    told_true : (n : Notice) (c : Cache) → TrueReading h last n.key n.reading → AllTrue h last c → AllTrue h last (parts.caches.after_notice n c)
     told_true n c true_n all =
         let P : CacheEntry → Type 0 = λ x. TrueReading h last x.key x.reading in
         let widen : (x : CacheEntry) → WidenedBy n c x → P x = λ x by.
@@ -180,7 +183,7 @@ module _
         ⊎_elim
         (λ has. all-has P c x all has)
         (λ new. ⊎_elim (λ same. subst P (sym same) true_n) (widen x) new)
-        from) (caches.after_notice n c) (cache_laws.told n c)
+        from) (parts.caches.after_notice n c) (parts.cache_laws.told n c)
 
     -- a true reading that meets the leg's interval answers
     answered_sound :
@@ -218,15 +221,15 @@ module _
         at_check P _ _ _ sound (λ few.
         at_else P _ _ _
         (λ e found.
-        let known = cache_laws.answers leg.interval k cache e found in
+        let known = parts.cache_laws.answers leg.interval k cache e found in
         let true_e = all-has (λ x. TrueReading h last x.key x.reading) cache e (sound.caches leg.worker) known.0 in
         let true_r : TrueReading h last k e.reading = subst (λ i. TrueReading h last i e.reading) known.1 true_e in
-        answered_sound p l k chain leg here is_open e.reading true_r known.2 (ltb-true _ _ few) _ (added_true cache _ e (cache_laws.used e cache) true_e (sound.caches leg.worker)))
+        answered_sound p l k chain leg here is_open e.reading true_r known.2 (ltb-true _ _ few) _ (added_true cache _ e (parts.cache_laws.used e cache) true_e (sound.caches leg.worker)))
         (λ _.
         at_result P _ _ _ (λ _ _. sound) (λ r answer.
         let a = store_true store.depth store.capacity s.store h sound.stands k leg.interval.high r key answer in
         answered_sound p l k chain leg here is_open r a.is_true (store_meets k chain.readings ((told p).written l) leg r of_leg a) (ltb-true _ _ few) _
-        (added_true cache _ (entry_of k r) (cache_laws.stored leg.interval.high (entry_of k r) cache) a.is_true (sound.caches leg.worker)))))))))
+        (added_true cache _ (entry_of k r) (parts.cache_laws.stored leg.interval.high (entry_of k r) cache) a.is_true (sound.caches leg.worker)))))))))
 
     pub deliver_keeps : (i : ℕ) → Kept (call.Deliver i) (step rules store.depth (call.Deliver i) s)
     deliver_keeps i =

@@ -5,8 +5,8 @@ use Rattle.store.specs.Meaning.{Meaning}
 use Rattle.lives.specs.Caches.{Cache}
 use Rattle.lives.specs.Engines.{Chain, Engine, with_place, with_cache}
 use Rattle.lives.specs.Lives.{NewStore, ChainTold}
-use Rattle.lives.specs.Rules.{ChainLimits}
 use Rattle.lives.specs.Updates.{with_at}
+use Rattle.lives.specs.declared.limits.ChainLimits.{ChainLimits}
 use Rattle.lives.proofs.Readings.{History, AllTrue}
 use Rattle.lives.proofs.Sound.{ChainSound, Sound}
 use Rattle.lives.proofs.Updates.{at_each, at_each_two}

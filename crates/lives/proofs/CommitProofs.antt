@@ -1,6 +1,6 @@
 -- A commit keeps the invariant of a life, and its account is confirmed: what the law says of it, but for the times of the
 -- reads, each of which is backed by a true reading that covers the account's interval.
-use Rattle.std.proofs.Common.{◌≡◌, ℕ, zero, suc, ◌<◌, ◌≤◌, min, max, Bool, true, not, ◌||◌, eqb, ltb, List, [], ◌∷◌, ◌++◌, map, length, IfSome, Some, None, Ok, Err, fold, Option, Result, sym, refl, ap, ◌∙◌, subst, ⊎_elim, arith}
+use Rattle.std.proofs.Common.{◌≡◌, ℕ, zero, suc, ◌<◌, ◌≤◌, min, max, Bool, true, not, ◌||◌, ◌==◌, nat_lt, List, [], ◌∷◌, ◌++◌, map, length, IfSome, Some, None, Ok, fold, Option, sym, refl, ap, ◌∙◌, subst, ⊎_elim, arith}
 use mathlib.Core.Path.{fun_ext}
 use Rattle.std.specs.List.{AllByRecursion, list_all}
 use Rattle.std.proofs.ByRecursion.{all-has, All-map, All-weaker}
@@ -8,23 +8,23 @@ use Rattle.std.proofs.lemmas.List.{append-nil, length-map}
 use Rattle.std.proofs.lemmas.Bool.{and_parts, and_from, cases_eq, eq-eqb, le-leb, lt-ltb, ltb-true}
 use Rattle.std.proofs.lemmas.Bool.Decides.{nat_tests}
 use Rattle.snapshot.specs.Accounts.{Account, sound_reading, greatest_timestamp, least_promise, rising_from, sound_timestamp, few_enough, agreed_ends, lawful}
-use Rattle.snapshot.specs.Limits.{open_end, is_key, is_timestamp}
+use Rattle.snapshot.specs.Limits.{open_end, is_key}
 use Rattle.snapshot.specs.Limits as limit
 use Rattle.snapshot.specs.declared.account.ChainReading.{ChainReading}
 use Rattle.snapshot.specs.declared.account.Write.{Write}
-use Rattle.snapshot.specs.declared.fault.Fault.{Fault}
 use Rattle.snapshot.specs.declared.interval.Interval.{Interval}
 use Rattle.store.specs.Laws.{versions_of}
-use Rattle.store.specs.Meaning.{Meaning, commit_answer, if_room, timestamp_for, with_writes, written_to}
-use Rattle.store.proofs.Standing.{accepted as commit-accepted, commit_stands}
+use Rattle.store.specs.Meaning.{Meaning, with_writes, written_to, commit_answer_by}
+use Rattle.store.proofs.Standing.{accepted as commit_accepted, commit_stands}
 use Rattle.store.proofs.Versions.{before_from_up_to}
 use Rattle.lives.specs.Engines.{OpenLeg, LegState, running, is_running, Chain, Engine, with_place}
 use Rattle.lives.specs.Lives.{NewStore, ChainTold, ValueRead}
 use Rattle.lives.specs.Notices.{notice_of}
-use Rattle.lives.specs.RuleLaws.{LimitLaws}
-use Rattle.lives.specs.Rules.{Rules, CacheRules, WriteSetRules, ChainLimits, rules_with}
+use Rattle.lives.specs.RuleLaws.{LimitLaws, LawfulParts, rules_of}
+use Rattle.lives.specs.Rules.{Rules}
 use Rattle.lives.specs.Steps.{Outcome, refused, accepted, step, only_open, account_for, after_store_commit, handed_to_store}
 use Rattle.lives.specs.declared.calls.Call.TheVariants as call
+use Rattle.lives.specs.declared.limits.ChainLimits.{ChainLimits}
 use Rattle.lives.specs.declared.records.LegReading.{LegReading}
 use Rattle.lives.proofs.CallProofs.{After}
 use Rattle.lives.proofs.Changes.{chain_at, free_sound}
@@ -43,7 +43,7 @@ running_is state leg e = ap is_running e
 only_one : (l : ℕ) (states : ℕ → LegState) (n j : ℕ) (leg : OpenLeg) → only_open l states n ≡ true → j < n → states j ≡ running leg → j ≡ l
 only_one l states zero j leg only lt e = absurd (omega arith)
 only_one l states (suc n) j leg only lt e =
-    let both = and_parts (eqb n l || not (is_running (states n))) (only_open l states n) only in
+    let both = and_parts (n == l || not (is_running (states n))) (only_open l states n) only in
     ⊎_elim
     (λ same.
     let runs : is_running (states n) ≡ true = ap (λ i. is_running (states i)) (sym same) ∙ running_is (states j) leg e in
@@ -147,25 +147,18 @@ abbrev pub IfAccepted : {X : Type 0} → (X → Engine → Type 0) → Outcome X
 IfAccepted P (refused f) = Unit {0}
 IfAccepted P (accepted x s) = P x s
 
--- A commit that is accepted has a timestamp that a commit can have.
-
-issued_timestamp : (clock : ℕ) (ws : List Write) (last t : ℕ) → timestamp_for clock ws last ≡ Ok t → is_timestamp t ≡ true
-issued_timestamp clock ws last t e = grind (arith, nat_tests)
-
-taken_where_room : (depth : ℕ) (ws : List Write) (m : Meaning) (r : Result ℕ Fault) (t : ℕ) → if_room depth ws m r ≡ Ok t → r ≡ Ok t
-taken_where_room depth ws m (Ok u) t e = grind (arith, nat_tests)
-taken_where_room depth ws m (Err f) t e = e
-
-accepted_timestamp : (depth clock : ℕ) (ws : List Write) (m : Meaning) (t : ℕ) → commit_answer depth clock ws m ≡ Ok t → is_timestamp t ≡ true
-accepted_timestamp depth clock ws m t e =
-    issued_timestamp clock ws m.last t (taken_where_room depth ws m (timestamp_for clock ws m.last) t e)
-
 module _
-    (caches : CacheRules) (write_sets : WriteSetRules) (limits : ChainLimits) (limit_laws : LimitLaws limits)
-    (store : NewStore) (h : History) (told : ℕ → ChainTold) (m : Meaning) (s : Engine) (sound : Sound store limits h told m s)
+    (parts : LawfulParts)
+    (store : NewStore) (h : History) (told : ℕ → ChainTold) (m : Meaning) (s : Engine) (sound : Sound store parts.limits h told m s)
   where
     abbrev rules : Rules
-    rules = rules_with caches write_sets limits
+    rules = rules_of parts
+
+    abbrev limits : ChainLimits
+    limits = parts.limits
+
+    abbrev limit_laws : LimitLaws limits
+    limit_laws = parts.limit_laws
 
     abbrev depth : ℕ
     depth = store.depth
@@ -176,10 +169,10 @@ module _
 
     -- the engine after its store took writes
     store_commit_sound :
-        (clock t : ℕ) (ws : List Write) (p : ℕ) → rising_from 0 ws ≡ true → commit_answer depth clock ws s.store ≡ Ok t →
+        (clock t : ℕ) (ws : List Write) (p : ℕ) → rising_from 0 ws ≡ true → commit_answer_by parts.timestamps depth clock ws s.store ≡ Ok t →
         Sound store limits (with_commit t ws) told (with_writes depth t ws m) (with_place p None (after_store_commit rules depth ws t s))
     store_commit_sound clock t ws p rising answer =
-        let a = commit-accepted depth clock ws s.store t answer in
+        let a = commit_accepted parts.timestamps parts.timestamp_laws depth clock ws s.store t answer in
         let last = s.store.last in
         let h' : History = with_commit t ws in
         let on = commit_goes_on h last t ws a.after_last in
@@ -190,10 +183,10 @@ module _
         let others : (q : ℕ) → IfSome (s.places q) (ChainSound h' t limits (told q)) = λ q. cases_on (ChainSound h last limits (told q)) (ChainSound h' t limits (told q)) (chain_on h last h' t on limits (told q)) (s.places q) (sound.chains q) in
         record {
           same_store = ap (with_writes depth t ws) sound.same_store;
-          stands = commit_stands depth store.capacity s.store h sound.stands clock ws t store.not_none answer;
-          before_end = ltb-true t open_end (and_parts _ _ (accepted_timestamp depth clock ws s.store t answer)).1;
+          stands = commit_stands depth store.capacity s.store h sound.stands parts.timestamps parts.timestamp_laws clock ws t store.not_none answer;
+          before_end = ltb-true t open_end (and_parts _ _ a.fits).1;
           caches = λ w. All-weaker (λ e. TrueReading h last e.key e.reading) (λ e. TrueReading h' t e.key e.reading) (λ e. true_on h last h' t on e.key e.reading) (s.caches w) (sound.caches w);
-          notices = raised_wait (λ n. TrueReading h' t n.key n.reading) caches.holds_key s.caches t ws s.notices noticed (All-weaker (λ n. TrueReading h last n.key n.reading) (λ n. TrueReading h' t n.key n.reading) (λ n. true_on h last h' t on n.key n.reading) s.notices.waiting sound.notices);
+          notices = raised_wait (λ n. TrueReading h' t n.key n.reading) parts.caches.holds_key s.caches t ws s.notices noticed (All-weaker (λ n. TrueReading h last n.key n.reading) (λ n. TrueReading h' t n.key n.reading) (λ n. true_on h last h' t on n.key n.reading) s.notices.waiting sound.notices);
           chains = at_each (λ q c. IfSome c (ChainSound h' t limits (told q))) p None s.places tt others;
         }
 
@@ -205,7 +198,7 @@ module _
     -- sound after it, with its account confirmed
     abbrev pub Committed : (p l clock r w : ℕ) → Outcome Account → Type 0
     Committed p l clock r w o =
-        After caches write_sets limits store h told m s (call.Commit p l clock r w) o × IfAccepted (AccountStands p l) o
+        After limits store h told m s (call.Commit p l clock r w) o × IfAccepted (AccountStands p l) o
 
     module _ (p l clock r w : ℕ) (chain : Chain) (before : ChainSound h s.store.last limits (told p) chain) where
       -- by the writes of the only open leg
@@ -239,11 +232,11 @@ module _
           let last = s.store.last in
           let of_leg = leg_sound last limits (told p) chain before.legs l leg is_open in
           at_result (Committed p l clock r w) _ _ _ (λ _ _. (sound, tt)) (λ t answer.
-          let a = commit-accepted depth clock ws s.store t answer in
+          let a = commit_accepted parts.timestamps parts.timestamp_laws depth clock ws s.store t answer in
           let on = commit_goes_on h last t ws a.after_last in
           let known = promises_known h last limits limit_laws (told p) chain before l leg is_open only sound.before_end in
           let later : AllByRecursion (λ r. r.reading.promise < t) (map (λ r. r.made) chain.readings) = All-weaker (λ r. r.reading.promise ≤ last) (λ r. r.reading.promise < t) (λ r le. omega (arith, a.after_last)) _ known in
-          let time : sound_timestamp t (map (λ r. r.made) chain.readings) ws ≡ true = and_from _ _ (accepted_timestamp depth clock ws s.store t answer) (all_pass (λ r. ltb r.reading.promise t) _ (All-weaker (λ r. r.reading.promise < t) (λ r. ltb r.reading.promise t ≡ true) (λ r lt. lt-ltb _ _ lt) _ later)) in
+          let time : sound_timestamp t (map (λ r. r.made) chain.readings) ws ≡ true = and_from _ _ a.fits (all_pass (λ r. nat_lt r.reading.promise t) _ (All-weaker (λ r. r.reading.promise < t) (λ r. nat_lt r.reading.promise t ≡ true) (λ r lt. lt-ltb _ _ lt) _ later)) in
           let on_backed : (x : ValueRead) → Backed h last i.low i.high x → Backed (with_commit t ws) t i.low i.high x = λ x b. record {
             reading = b.reading;
             is_true = true_on h last (with_commit t ws) t on x.key b.reading b.is_true;

@@ -8,7 +8,7 @@ use Rattle.snapshot.specs.declared.fault.EngineFault.{EngineFault}
 use Rattle.snapshot.specs.declared.fault.Refusal.TheVariants.{VersionGone}
 use Rattle.store.specs.Meaning.{version_of, versions_below, question_fault}
 use Rattle.store.specs.declared.version.Version.{Version}
-use Rattle.lives.specs.Examples.{BreakIn, WrongRules, table, break_in, break_in_account, read_then_pruned, pruned, written_behind, read_from_cache}
+use Rattle.lives.specs.Examples.{BreakIn, ForgottenPromise, LatePromise, table, break_in, break_in_account, read_then_pruned, pruned, written_behind, read_from_cache}
 use Rattle.lives.specs.Law.{ValueAt, AccountLaw, GoneLaw, LawOfLives, leg_at}
 use Rattle.lives.specs.Lives.{Event, event, Life, AtEach, NewStore, ValueRead, engine_after, life_of, history_of, store_after, told_of}
 use Rattle.lives.specs.Rules.{Rules, the_rules}
@@ -117,8 +117,8 @@ not_among vs e has =
     let same : 10 ≡ 30 = all-has (λ v. v.timestamp ≡ 30) (version_of 30 6 ∷ []) (version_of 10 5) (refl, tt) (subst Kept e has) in
     omega (arith, same)
 
-pub break_in_lem : BreakIn
-break_in_lem =
+pub break_in_shows : BreakIn
+break_in_shows =
     record {
       committed = committed_life;
       law = break_in_law;
@@ -131,18 +131,20 @@ break_in_lem =
       gone = gone_law;
     }
 
-pub wrong_rules : WrongRules
+pub forgotten_promise : ForgottenPromise
 unfolding check with_chain with_open with_open_leg if_free with_result or_else versions_below
-wrong_rules =
+forgotten_promise =
     record {
-      forgotten = record {
-        committed = refl;
-        zone = six_at_thirty;
-        unlawful = λ lawful. not_five_at_thirty (((lawful.by_calls table (written_behind ++ (call.Commit 0 0 0 32 8 ∷ []))).commits.0 0 0 0 32 8 _ refl).agrees 30 (omega arith, omega arith)).0;
-      };
-      late = record {
-        committed = refl;
-        zone = six_at_thirty;
-        unlawful = λ lawful. not_five_at_thirty (((lawful.by_calls table (read_from_cache ++ (call.Commit 0 0 0 32 8 ∷ []))).commits.0 0 0 0 32 8 _ refl).agrees 30 (omega arith, omega arith)).0;
-      };
+      committed = refl;
+      zone = six_at_thirty;
+      unlawful = λ lawful. not_five_at_thirty (((lawful.by_calls table (written_behind ++ (call.Commit 0 0 0 32 8 ∷ []))).commits.0 0 0 0 32 8 _ refl).agrees 30 (omega arith, omega arith)).0;
+    }
+
+pub late_promise : LatePromise
+unfolding check with_chain with_open with_open_leg if_free with_result or_else versions_below
+late_promise =
+    record {
+      committed = refl;
+      zone = six_at_thirty;
+      unlawful = λ lawful. not_five_at_thirty (((lawful.by_calls table (read_from_cache ++ (call.Commit 0 0 0 32 8 ∷ []))).commits.0 0 0 0 32 8 _ refl).agrees 30 (omega arith, omega arith)).0;
     }

@@ -15,7 +15,8 @@ use Rattle.store.proofs.Keeping.{law_from_stands}
 use Rattle.lives.specs.Engines.{Engine}
 use Rattle.lives.specs.Law.{GoneLaw, leg_in, leg_at}
 use Rattle.lives.specs.Lives.{NewStore, ChainTold}
-use Rattle.lives.specs.Rules.{Rules, CacheRules, WriteSetRules, ChainLimits, rules_with}
+use Rattle.lives.specs.RuleLaws.{LawfulParts, rules_of}
+use Rattle.lives.specs.Rules.{Rules}
 use Rattle.lives.specs.Steps.{Outcome, refused, accepted, answer_in, step}
 use Rattle.lives.specs.declared.calls.Call.TheVariants as call
 use Rattle.lives.proofs.Outcomes.{at_check, at_open_leg, at_result, at_else}
@@ -35,11 +36,11 @@ if_gone P (refused g) f e gone h = let same : f ≡ g = cc in h (sym (ap (λ x. 
 if_gone P (accepted x s) f e gone h = absurd (grind arith)
 
 module _
-    (caches : CacheRules) (write_sets : WriteSetRules) (limits : ChainLimits)
-    (store : NewStore) (h : History) (told : ℕ → ChainTold) (m : Meaning) (s : Engine) (sound : Sound store limits h told m s)
+    (parts : LawfulParts)
+    (store : NewStore) (h : History) (told : ℕ → ChainTold) (m : Meaning) (s : Engine) (sound : Sound store parts.limits h told m s)
   where
     abbrev rules : Rules
-    rules = rules_with caches write_sets limits
+    rules = rules_of parts
 
     pub read_gone : (p l k : ℕ) (f : EngineFault) → Err f ≡ answer_in (step rules store.depth (call.Read p l k) s) → f.fault.refusal ≡ VersionGone → GoneLaw h m.kept (leg_at s p l) k
     read_gone p l k f e gone =

@@ -14,7 +14,7 @@ use Rattle.snapshot.specs.Limits.{open_end, is_worker}
 use Rattle.snapshot.specs.Limits as limit
 use Rattle.lives.specs.Engines.{OpenLeg, LegState, unused, running, ended, on_worker, holding, within, Chain, with_leg, end_leg, open_leg, add_reading, no_legs, new_chain}
 use Rattle.lives.specs.Lives.{ChainTold, ValueRead, nothing_told, leg_wrote, outside_with, leg_read}
-use Rattle.lives.specs.Rules.{ChainLimits}
+use Rattle.lives.specs.declared.limits.ChainLimits.{ChainLimits}
 use Rattle.lives.specs.declared.records.LegReading.{LegReading}
 use Rattle.lives.proofs.Readings.{History, TrueReading, GoesOn, true_on}
 use Rattle.lives.proofs.Sound.{LegSound, LegsSound, IfRunning, Covers, ReadingSound, Shown, ChainSound}

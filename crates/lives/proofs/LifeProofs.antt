@@ -6,16 +6,17 @@ use Rattle.snapshot.specs.Accounts.{Account}
 use Rattle.snapshot.specs.declared.fault.EngineFault.{EngineFault}
 use Rattle.snapshot.specs.declared.fault.Refusal.TheVariants.{VersionGone}
 use Rattle.store.specs.Laws.{version_in}
-use Rattle.store.specs.Meaning.{Meaning}
-use Rattle.store.proofs.Standing.{new_stands}
+use Rattle.store.specs.Meaning.{Meaning, issued}
+use Rattle.store.proofs.Standing.{new_stands, issued_laws}
 use Rattle.lives.specs.Engines.{OpenLeg, running, Chain, Engine}
 use Rattle.lives.specs.Law.{ValueAt, AccountLaw, GoneLaw, leg_in, leg_at, LawOfLives, LedTo, Lawful, RestsOnLaws}
 use Rattle.lives.specs.Lives.{Event, event, Life, AtEach, NewStore, AsDrawn, engine_after, life_from, life_of, history_by, history_with, history_of, store_by, store_with, store_after, ChainTold, told_with, told_of}
-use Rattle.lives.specs.RuleLaws.{CacheLaws, WriteSetLaws, LimitLaws}
-use Rattle.lives.specs.Rules.{Rules, CacheRules, WriteSetRules, ChainLimits, rules_with, the_rules}
+use Rattle.lives.specs.RuleLaws.{LawfulParts, rules_of}
+use Rattle.lives.specs.Rules.{Rules, the_rules, the_caches, the_write_sets, the_limits}
 use Rattle.lives.specs.Steps.{AnswerTo, Outcome, refused, accepted, answer_in, engine_in, step}
 use Rattle.lives.specs.declared.calls.Call.{Call}
 use Rattle.lives.specs.declared.calls.Call.TheVariants as call
+use Rattle.lives.specs.declared.limits.ChainLimits.{ChainLimits}
 use Rattle.lives.proofs.CacheProofs.{the_caches_lawful}
 use Rattle.lives.proofs.CallProofs.{After, begin_keeps, hand_keeps, fork_keeps, join_keeps, read_keeps, write_keeps, abandon_keeps, deliver_keeps, discard_keeps, prune_keeps}
 use Rattle.lives.proofs.CommitProofs.{IfAccepted, AccountStands, commit_keeps}
@@ -76,29 +77,29 @@ module _ (h : History) (m : Meaning) (depth : ℕ) where
 
 -- Every call keeps the invariant.
 
-module _
-    (caches : CacheRules) (cache_laws : CacheLaws caches) (write_sets : WriteSetRules) (write_laws : WriteSetLaws write_sets) (limits : ChainLimits) (limit_laws : LimitLaws limits)
-    (store : NewStore)
-  where
+module _ (parts : LawfulParts) (store : NewStore) where
     abbrev rules : Rules
-    rules = rules_with caches write_sets limits
+    rules = rules_of parts
+
+    abbrev limits : ChainLimits
+    limits = parts.limits
 
     abbrev depth : ℕ
     depth = store.depth
 
-    call_keeps : (h : History) (told : ℕ → ChainTold) (m : Meaning) (s : Engine) → Sound store limits h told m s → (c : Call) → After caches write_sets limits store h told m s c (step rules depth c s)
-    call_keeps h told m s sound (call.Begin p w) = begin_keeps caches cache_laws write_sets write_laws limits store h told m s sound p w
-    call_keeps h told m s sound (call.Hand p l w) = hand_keeps caches cache_laws write_sets write_laws limits store h told m s sound p l w
-    call_keeps h told m s sound (call.Fork p l w v) = fork_keeps caches cache_laws write_sets write_laws limits store h told m s sound p l w v
-    call_keeps h told m s sound (call.Join p l j w) = join_keeps caches cache_laws write_sets write_laws limits store h told m s sound p l j w
-    call_keeps h told m s sound (call.Read p l k) = read_keeps caches cache_laws write_sets write_laws limits store h told m s sound p l k
-    call_keeps h told m s sound (call.Write p l k x) = write_keeps caches cache_laws write_sets write_laws limits store h told m s sound p l k x
-    call_keeps h told m s sound (call.Commit p l clock r w) = (commit_keeps caches write_sets limits limit_laws store h told m s sound p l clock r w).0
-    call_keeps h told m s sound (call.Abandon p) = abandon_keeps caches cache_laws write_sets write_laws limits store h told m s sound p
-    call_keeps h told m s sound (call.Deliver i) = deliver_keeps caches cache_laws write_sets write_laws limits store h told m s sound i
-    call_keeps h told m s sound (call.Discard i) = discard_keeps caches cache_laws write_sets write_laws limits store h told m s sound i
+    call_keeps : (h : History) (told : ℕ → ChainTold) (m : Meaning) (s : Engine) → Sound store limits h told m s → (c : Call) → After limits store h told m s c (step rules depth c s)
+    call_keeps h told m s sound (call.Begin p w) = begin_keeps parts store h told m s sound p w
+    call_keeps h told m s sound (call.Hand p l w) = hand_keeps parts store h told m s sound p l w
+    call_keeps h told m s sound (call.Fork p l w v) = fork_keeps parts store h told m s sound p l w v
+    call_keeps h told m s sound (call.Join p l j w) = join_keeps parts store h told m s sound p l j w
+    call_keeps h told m s sound (call.Read p l k) = read_keeps parts store h told m s sound p l k
+    call_keeps h told m s sound (call.Write p l k x) = write_keeps parts store h told m s sound p l k x
+    call_keeps h told m s sound (call.Commit p l clock r w) = (commit_keeps parts store h told m s sound p l clock r w).0
+    call_keeps h told m s sound (call.Abandon p) = abandon_keeps parts store h told m s sound p
+    call_keeps h told m s sound (call.Deliver i) = deliver_keeps parts store h told m s sound i
+    call_keeps h told m s sound (call.Discard i) = discard_keeps parts store h told m s sound i
     call_keeps h told m s sound call.Count = sound
-    call_keeps h told m s sound (call.Prune n) = prune_keeps caches cache_laws write_sets write_laws limits store h told m s sound n
+    call_keeps h told m s sound (call.Prune n) = prune_keeps parts store h told m s sound n
 
     abbrev last_after : Life → ℕ
     last_after life = (engine_after rules store life).store.last
@@ -119,12 +120,12 @@ module _
       m = store_after store life
 
       -- a commit's account is confirmed when it is committed
-      account_new : (p l clock r w : ℕ) (a : Account) → e ≡ event (call.Commit p l clock r w) (Ok a) → AccountStands caches write_sets limits limit_laws store h (told_of life) m s before.engine p l a (engine_after rules store (e ∷ life))
+      account_new : (p l clock r w : ℕ) (a : Account) → e ≡ event (call.Commit p l clock r w) (Ok a) → AccountStands parts store h (told_of life) m s before.engine p l a (engine_after rules store (e ∷ life))
       account_new p l clock r w a is =
-          let StandsAt : Engine → Type 0 = AccountStands caches write_sets limits limit_laws store h (told_of life) m s before.engine p l a in
+          let StandsAt : Engine → Type 0 = AccountStands parts store h (told_of life) m s before.engine p l a in
           let Q : Event → Type 0 = λ x. x.answer ≡ answer_in (step rules depth x.called s) → StandsAt (engine_in s (step rules depth x.called s)) in
-          let kept = commit_keeps caches write_sets limits limit_laws store h (told_of life) m s before.engine p l clock r w in
-          subst Q (sym is) (λ d. if_accepted (AccountStands caches write_sets limits limit_laws store h (told_of life) m s before.engine p l) s (step rules depth (call.Commit p l clock r w) s) a d kept.1) drawn
+          let kept = commit_keeps parts store h (told_of life) m s before.engine p l clock r w in
+          subst Q (sym is) (λ d. if_accepted (AccountStands parts store h (told_of life) m s before.engine p l) s (step rules depth (call.Commit p l clock r w) s) a d kept.1) drawn
 
       confirmed_new : (p l clock r w : ℕ) (a : Account) → e ≡ event (call.Commit p l clock r w) (Ok a) → Confirmed (history_of (e ∷ life)) (last_after (e ∷ life)) h (told_of life p) l a
       confirmed_new p l clock r w a is =
@@ -145,7 +146,7 @@ module _
       gone_new : (p l k : ℕ) (f : EngineFault) → e ≡ event (call.Read p l k) (Err f) → f.fault.refusal ≡ VersionGone → GoneLaw h m.kept (leg_at s p l) k
       gone_new p l k f is gone =
           let Q : Event → Type 0 = λ x. x.answer ≡ answer_in (step rules depth x.called s) in
-          read_gone caches write_sets limits store h (told_of life) m s before.engine p l k f (subst Q is drawn) gone
+          read_gone parts store h (told_of life) m s before.engine p l k f (subst Q is drawn) gone
 
       life_on : LifeSound rules limits store (e ∷ life)
       life_on =
@@ -231,8 +232,18 @@ module _
 -- The law rests on the laws of its parts, and those that hold keep them.
 
 pub rests_on_laws : RestsOnLaws
-rests_on_laws c cl w wl l ll =
-    record { by_calls = λ store calls. calls_lawful c cl w wl l ll store calls; one_more_call = λ store. one_more c cl w wl l ll store }
+rests_on_laws parts =
+    record { by_calls = λ store calls. calls_lawful parts store calls; one_more_call = λ store. one_more parts store }
 
 pub the_rules_lawful : Lawful the_rules
-the_rules_lawful = rests_on_laws _ the_caches_lawful _ the_write_sets_lawful _ the_limits_lawful
+the_rules_lawful =
+    rests_on_laws (record {
+      caches = the_caches;
+      cache_laws = the_caches_lawful;
+      timestamps = issued;
+      timestamp_laws = issued_laws;
+      write_sets = the_write_sets;
+      write_set_laws = the_write_sets_lawful;
+      limits = the_limits;
+      limit_laws = the_limits_lawful;
+    })

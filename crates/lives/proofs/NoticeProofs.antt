@@ -1,5 +1,5 @@
 -- What holds of the waiting notices and of those that a commit may raise, holds of those that wait after it.
-use Rattle.std.proofs.Common.{◌≡◌, ℕ, zero, suc, ◌≤◌, Bool, true, eqb, ltb, List, [], ◌∷◌, length, take, drop, Some, Option, refl, ◌∙◌, arith}
+use Rattle.std.proofs.Common.{◌≡◌, ℕ, zero, suc, ◌≤◌, Bool, true, ◌==◌, nat_lt, List, [], ◌∷◌, length, take, drop, Some, Option, refl, ◌∙◌, arith}
 use Rattle.std.specs.List.{slice_get, remove, AllByRecursion}
 use Rattle.std.proofs.ByRecursion.{All-append, All-drop, All-push, All-take}
 use Rattle.std.proofs.lemmas.Bool.{cond_both, cond-true, cond-false, eq-eqb, ne_eqb}
@@ -17,7 +17,7 @@ use Rattle.lives.specs.declared.records.Notice.{Notice}
 module _ (P : Notice → Type 0) where
   raise_all_wait : (n : Notice) (ns : Notices) → P n → AllByRecursion P ns.waiting → AllByRecursion P (raise n ns).waiting
   raise_all_wait n ns here all =
-      cond_both (ltb (length ns.waiting) waiting_notices) _ _ (λ (after : Notices). AllByRecursion P after.waiting) (λ _. All-push P ns.waiting n all here) (λ _. all)
+      cond_both (nat_lt (length ns.waiting) waiting_notices) _ _ (λ (after : Notices). AllByRecursion P after.waiting) (λ _. All-push P ns.waiting n all here) (λ _. all)
 
   below_wait : (holder : ℕ → Bool) (t : ℕ) (w : Write) (n : ℕ) (ns : Notices) → ((worker : ℕ) → P (notice_of t w worker)) → AllByRecursion P ns.waiting → AllByRecursion P (raise_below holder t w n ns).waiting
   below_wait holder t w zero ns each all = all
@@ -45,8 +45,8 @@ written_from : (least : ℕ) (ws : List Write) (f : ℕ → Option ℕ) → ((k 
 written_from least [] f alike e = tt
 written_from least (w ∷ ws) f alike e =
     let here : least ≤ w.key = grind (arith, nat_tests) in
-    let found : f w.key ≡ Some w.value = alike w.key here ∙ cond-true (eqb w.key w.key) _ _ (eq-eqb w.key w.key refl) in
-    let behind : (k : ℕ) → suc w.key ≤ k → f k ≡ written_to k ws = λ k le. alike k (omega arith) ∙ cond-false (eqb w.key k) _ _ (ne_eqb w.key k (omega arith)) in
+    let found : f w.key ≡ Some w.value = alike w.key here ∙ cond-true (w.key == w.key) _ _ (eq-eqb w.key w.key refl) in
+    let behind : (k : ℕ) → suc w.key ≤ k → f k ≡ written_to k ws = λ k le. alike k (omega arith) ∙ cond-false (w.key == k) _ _ (ne_eqb w.key k (omega arith)) in
     ((grind (arith, nat_tests), found), written_from (suc w.key) ws f behind (rising_later least w ws e))
 
 pub written_each : (ws : List Write) → rising_from 0 ws ≡ true → AllByRecursion (λ w. (is_key w.key ≡ true) × (written_to w.key ws ≡ Some w.value)) ws

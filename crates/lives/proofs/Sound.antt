@@ -12,8 +12,9 @@ use Rattle.store.proofs.Standing.{Stands}
 use Rattle.lives.specs.Engines.{OpenLeg, LegState, unused, running, ended, Chain, Engine}
 use Rattle.lives.specs.Law.{GoneLaw, leg_at}
 use Rattle.lives.specs.Lives.{Life, AtEach, event, NewStore, AsDrawn, engine_after, history_of, store_after, ChainTold, ValueRead, told_of}
-use Rattle.lives.specs.Rules.{Rules, ChainLimits}
+use Rattle.lives.specs.Rules.{Rules}
 use Rattle.lives.specs.declared.calls.Call.TheVariants as call
+use Rattle.lives.specs.declared.limits.ChainLimits.{ChainLimits}
 use Rattle.lives.specs.declared.records.LegReading.{LegReading}
 use Rattle.lives.proofs.Readings.{History, TrueReading, AllTrue}
 

@@ -1,5 +1,5 @@
 -- The write sets and the limits that hold keep their laws.
-use Rattle.std.proofs.Common.{◌≡◌, ℕ, suc, ◌<◌, ◌≤◌, true, cond, eqb, List, [], ◌∷◌, Some, None, Option, refl, arith}
+use Rattle.std.proofs.Common.{◌≡◌, ℕ, suc, ◌<◌, ◌≤◌, true, if◌then◌else◌, ◌==◌, List, [], ◌∷◌, Some, None, Option, refl, arith}
 use Rattle.std.specs.Option.{option_or}
 use Rattle.std.proofs.lemmas.Bool.Decides.{nat_tests}
 use Rattle.snapshot.specs.Accounts.{rising_from}
@@ -33,7 +33,7 @@ join_rises_lem least xs (w ∷ ws) ex ey =
     join_rises_lem (suc w.key) (with_write w xs) ws (write_rises_lem 0 w xs (omega arith) (grind (arith, nat_tests)) ex) (rising_later least w ws ey)
 
 -- a key that is written first and not again has that value
-join_step : (w : Write) (k : ℕ) (first later : Option ℕ) → (w.key ≡ k → later ≡ None) → option_or later (cond (eqb k w.key) (Some w.value) first) ≡ option_or (cond (eqb w.key k) (Some w.value) later) first
+join_step : (w : Write) (k : ℕ) (first later : Option ℕ) → (w.key ≡ k → later ≡ None) → option_or later (if k == w.key then (Some w.value) else first) ≡ option_or (if w.key == k then (Some w.value) else later) first
 join_step w k first later h = grind (arith, nat_tests)
 
 join_has_lem : (least : ℕ) (xs ys : List Write) (k : ℕ) → rising_from least ys ≡ true → written_to k (united xs ys) ≡ option_or (written_to k ys) (written_to k xs)

@@ -12,7 +12,7 @@ use Rattle.snapshot.specs.declared.account.Write.{Write}
 use Rattle.snapshot.specs.declared.fault.Fault.{Fault}
 use Rattle.snapshot.specs.declared.fault.Refusal.TheVariants.{VersionGone}
 use Rattle.snapshot.specs.declared.interval.Interval.{Interval}
-use Rattle.store.specs.Meaning.{Meaning, version_of, version_answer, question_fault}
+use Rattle.store.specs.Meaning.{Meaning, issued, version_of, version_answer, question_fault}
 use Rattle.lives.specs.Law.{ValueAt, AccountLaw, GoneLaw, leg_at, Lawful}
 use Rattle.lives.specs.Lives.{event, NewStore, engine_after, life_of, history_of, store_after}
 use Rattle.lives.specs.Rules.{Rules, the_caches, the_write_sets, the_limits, the_rules}
@@ -97,7 +97,7 @@ pub record BreakIn : Type 0 where
 -- rules with one in which something is wrong
 abbrev pub rules_but : (Meaning → ℕ → ℕ → Result Reading Fault) → (Interval → Reading → Interval) → Rules
 rules_but version narrow =
-    record { version = version; narrow = narrow; caches = the_caches; write_sets = the_write_sets; limits = the_limits }
+    record { version = version; narrow = narrow; timestamps = issued; caches = the_caches; write_sets = the_write_sets; limits = the_limits }
 
 -- the account that is committed last shows the zone 5 at a time at which it was 6, and so the rules are not lawful
 pub record Breaks (rules : Rules) (calls : List Call) (shown : Account) : Type 0 where
@@ -114,8 +114,11 @@ abbrev pub written_behind : List Call
 written_behind =
     call.Begin 0 1 ∷ call.Write 0 0 7 5 ∷ call.Commit 0 0 10 32 8
     ∷ call.Begin 0 1 ∷ call.Read 0 0 7
-    ∷ call.Begin 1 2 ∷ call.Write 1 0 7 6 ∷ call.Commit 1 0 30 32 8
+    ∷ call.Begin 1 3 ∷ call.Write 1 0 7 6 ∷ call.Commit 1 0 30 32 8
     ∷ []
+
+abbrev pub ForgottenPromise : Type 0
+ForgottenPromise = Breaks forgets_promise written_behind (account 10 open_end 0 (read 1 7 5 10 10 ∷ []) [])
 
 -- a promise is one too late: where there is a next version, that one's own timestamp
 abbrev pub one_too_late : Meaning → Reading → Reading
@@ -143,6 +146,5 @@ read_from_cache =
     ∷ call.Begin 0 1 ∷ call.Read 0 0 7
     ∷ []
 
-pub record WrongRules : Type 0 where
-  pub forgotten : Breaks forgets_promise written_behind (account 10 open_end 0 (read 1 7 5 10 10 ∷ []) [])
-  pub late : Breaks promises_late read_from_cache (account 10 30 0 (read 1 7 5 10 30 ∷ []) [])
+abbrev pub LatePromise : Type 0
+LatePromise = Breaks promises_late read_from_cache (account 10 30 0 (read 1 7 5 10 30 ∷ []) [])

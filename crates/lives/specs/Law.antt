@@ -11,8 +11,8 @@ use Rattle.store.specs.Meaning.{written_to}
 use Rattle.store.specs.declared.version.Version.{Version}
 use Rattle.lives.specs.Engines.{OpenLeg, LegState, unused, running, Chain, Engine}
 use Rattle.lives.specs.Lives.{event, Life, AtEach, NewStore, AsDrawn, engine_after, life_of, history_of, store_after, told_of}
-use Rattle.lives.specs.RuleLaws.{CacheLaws, WriteSetLaws, LimitLaws}
-use Rattle.lives.specs.Rules.{Rules, CacheRules, WriteSetRules, ChainLimits, rules_with}
+use Rattle.lives.specs.RuleLaws.{LawfulParts, rules_of}
+use Rattle.lives.specs.Rules.{Rules}
 use Rattle.lives.specs.Steps.{answer_in, step}
 use Rattle.lives.specs.declared.calls.Call.{Call}
 use Rattle.lives.specs.declared.calls.Call.TheVariants as call
@@ -83,7 +83,6 @@ pub record Lawful (rules : Rules) : Type 0 where
       (store : NewStore) (life : Life) (s : Engine) (c : Call) → LedTo rules store life s →
       LawOfLives rules store (event c (answer_in (step rules store.depth c s)) ∷ life)
 
--- whatever caches, write sets and limits keep their laws make lawful rules
+-- whatever caches, timestamps, write sets and limits keep their laws make lawful rules
 abbrev pub RestsOnLaws : Type 0
-RestsOnLaws =
-    (c : CacheRules) → CacheLaws c → (w : WriteSetRules) → WriteSetLaws w → (l : ChainLimits) → LimitLaws l → Lawful (rules_with c w l)
+RestsOnLaws = (parts : LawfulParts) → Lawful (rules_of parts)

@@ -1,5 +1,5 @@
--- What the law of lives rests on: the promises of caches, of write sets and of a chain's limits. Whatever keeps these can
--- stand in their place.
+-- What the law of lives rests on: the promises of caches, of write sets and of a chain's limits; those of timestamps are the
+-- store's. Whatever keeps these can stand in their place.
 use Rattle.std.specs.Prelude.{◌≡◌, ℕ, ◌≤◌, true, ◌⊎◌, List, Some}
 use Rattle.std.specs.Option.{option_or}
 use Rattle.std.specs.List.{ContainsAt as Has, AllByRecursion}
@@ -9,10 +9,12 @@ use Rattle.snapshot.specs.Limits as limit
 use Rattle.snapshot.specs.Limits.{is_key}
 use Rattle.snapshot.specs.declared.account.Write.{Write}
 use Rattle.snapshot.specs.declared.interval.Interval.{Interval}
-use Rattle.store.specs.Meaning.{written_to}
+use Rattle.store.specs.Laws.{IssuingLaws}
+use Rattle.store.specs.Meaning.{Issuing, written_to}
 use Rattle.lives.specs.Caches.{Cache, entry_of, widened}
-use Rattle.lives.specs.Rules.{CacheRules, WriteSetRules, ChainLimits}
+use Rattle.lives.specs.Rules.{CacheRules, WriteSetRules, Rules, rules_with}
 use Rattle.lives.specs.Updates.{with_at}
+use Rattle.lives.specs.declared.limits.ChainLimits.{ChainLimits}
 use Rattle.lives.specs.declared.records.CacheEntry.{CacheEntry}
 use Rattle.lives.specs.declared.records.Notice.{Notice}
 
@@ -59,3 +61,19 @@ pub record WriteSetLaws (rules : WriteSetRules) : Type 0 where
 pub record LimitLaws (limits : ChainLimits) : Type 0 where
   pub writes : limits.write_keys ≤ limit.write_keys
   pub readings : limits.readings ≤ limit.chain_readings
+
+-- Parts of the rules that keep their laws.
+
+pub record LawfulParts : Type 0 where
+  pub caches : CacheRules
+  pub cache_laws : CacheLaws caches
+  pub timestamps : Issuing
+  pub timestamp_laws : IssuingLaws timestamps
+  pub write_sets : WriteSetRules
+  pub write_set_laws : WriteSetLaws write_sets
+  pub limits : ChainLimits
+  pub limit_laws : LimitLaws limits
+
+-- the rules that are built from them
+abbrev pub rules_of : LawfulParts → Rules
+rules_of parts = rules_with parts.caches parts.timestamps parts.write_sets parts.limits

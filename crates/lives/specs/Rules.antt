@@ -1,5 +1,5 @@
--- The rules that a step is built from, each in its place: what a store answers, how a reading narrows an interval, the
--- caches, the write sets, and the limits of a chain.
+-- The rules that a step is built from, each in its place: what a store answers, how a reading narrows an interval, how a
+-- timestamp is chosen, the caches, the write sets, and the limits of a chain.
 use Rattle.std.specs.Prelude.{ℕ, Bool, List, Option, Result}
 use Rattle.snapshot.specs.Intervals.{narrowed}
 use Rattle.snapshot.specs.Limits as limit
@@ -7,9 +7,10 @@ use Rattle.snapshot.specs.declared.account.Reading.{Reading}
 use Rattle.snapshot.specs.declared.account.Write.{Write}
 use Rattle.snapshot.specs.declared.fault.Fault.{Fault}
 use Rattle.snapshot.specs.declared.interval.Interval.{Interval}
-use Rattle.store.specs.Meaning.{Meaning, version_answer}
+use Rattle.store.specs.Meaning.{Meaning, Issuing, issued, version_answer}
 use Rattle.lives.specs.Caches.{Cache, holds, answering, used_latest, with_answer, with_notice}
 use Rattle.lives.specs.WriteSets.{with_write, united}
+use Rattle.lives.specs.declared.limits.ChainLimits.{ChainLimits}
 use Rattle.lives.specs.declared.records.CacheEntry.{CacheEntry}
 use Rattle.lives.specs.declared.records.Notice.{Notice}
 
@@ -31,16 +32,13 @@ pub record WriteSetRules : Type 0 where
   -- the write set of two joined legs, the first named first
   pub after_join : List Write → List Write → List Write
 
--- the most keys in a write set, and the most readings of a chain
-pub record ChainLimits : Type 0 where
-  pub write_keys : ℕ
-  pub readings : ℕ
-
 pub record Rules : Type 0 where
   -- what a store answers for a key at a time
   pub version : Meaning → ℕ → ℕ → Result Reading Fault
   -- a leg's interval after a reading
   pub narrow : Interval → Reading → Interval
+  -- how a commit's timestamp is chosen
+  pub timestamps : Issuing
   pub caches : CacheRules
   pub write_sets : WriteSetRules
   pub limits : ChainLimits
@@ -57,8 +55,9 @@ the_write_sets = record { after_write = with_write; after_join = united }
 abbrev pub the_limits : ChainLimits
 the_limits = record { write_keys = limit.write_keys; readings = limit.chain_readings }
 
-abbrev pub rules_with : CacheRules → WriteSetRules → ChainLimits → Rules
-rules_with c w l = record { version = version_answer; narrow = narrowed; caches = c; write_sets = w; limits = l }
+abbrev pub rules_with : CacheRules → Issuing → WriteSetRules → ChainLimits → Rules
+rules_with c t w l =
+    record { version = version_answer; narrow = narrowed; timestamps = t; caches = c; write_sets = w; limits = l }
 
 abbrev pub the_rules : Rules
-the_rules = rules_with the_caches the_write_sets the_limits
+the_rules = rules_with the_caches issued the_write_sets the_limits

@@ -13,7 +13,7 @@ use Rattle.snapshot.specs.declared.fault.EngineFault.{EngineFault}
 use Rattle.snapshot.specs.declared.fault.Layer.TheVariants as layer
 use Rattle.snapshot.specs.declared.fault.Refusal.{Refusal}
 use Rattle.snapshot.specs.declared.fault.Refusal.TheVariants.{OutOfRange, PlaceOccupied, NotOpen, SameLeg, TooManyLegs, WriteSetFull, ReadingsFull, AnotherLegOpen, TooShort, NoSuchNotice}
-use Rattle.store.specs.Meaning.{commit_answer, with_writes, after_prune, written_to}
+use Rattle.store.specs.Meaning.{commit_answer_by, with_writes, after_prune, written_to}
 use Rattle.lives.specs.Caches.{Cache, entry_of}
 use Rattle.lives.specs.Engines.{OpenLeg, LegState, unused, running, ended, is_running, on_worker, holding, within, Chain, with_leg, end_leg, open_leg, add_reading, new_chain, Notices, Engine, with_place, with_cache, with_notices, with_store}
 use Rattle.lives.specs.Notices.{raise_all}
@@ -218,7 +218,7 @@ module _ (rules : Rules) (depth : ℕ) where
   abbrev pub handed_to_store : ℕ → ℕ → ℕ → Chain → OpenLeg → List Write → Engine → Outcome Account
   handed_to_store p l clock chain leg [] s = accepted (account_for chain leg 0) (with_place p None s)
   handed_to_store p l clock chain leg (w ∷ ws) s =
-      with_result (commit_answer depth clock (w ∷ ws) s.store) (λ f. around_store f p l not_named) (λ t.
+      with_result (commit_answer_by rules.timestamps depth clock (w ∷ ws) s.store) (λ f. around_store f p l not_named) (λ t.
       accepted (account_for chain leg t) (with_place p None (after_store_commit (w ∷ ws) t s)))
 
   -- commits a chain by its only open leg

@@ -3,4 +3,7 @@
 #![tactic(auto)]
 
 pub mod calls;
+pub mod examples;
+pub mod law;
+pub mod limits;
 pub mod records;

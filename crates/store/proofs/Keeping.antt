@@ -11,12 +11,12 @@ use Rattle.snapshot.specs.declared.account.Write.{Write}
 use Rattle.snapshot.specs.declared.fault.Refusal.TheVariants.{VersionGone}
 use Rattle.store.specs.Calls.{answer_of, after_call, answers_of, after_calls}
 use Rattle.store.specs.Laws.{Rises, HoldsAt, version_in, given_by, given_by_all, AnswerLaw, KeyLaw, CommitLaw, StoreLaw, ever_had, KeepsLaws}
-use Rattle.store.specs.Meaning.{Meaning, version_of, new_store, question_fault, in_range, newest_at, version_answer, commit_answer, after_prune}
+use Rattle.store.specs.Meaning.{Meaning, version_of, new_store, issued, question_fault, in_range, newest_at, version_answer, commit_answer, after_prune}
 use Rattle.store.specs.declared.calls.StoreCall.{StoreCall}
 use Rattle.store.specs.declared.calls.StoreCall.TheVariants as call
 use Rattle.store.specs.declared.version.Version.{Version}
 use Rattle.store.proofs.Versions.{Later, Shows, NewestMeans, before_from_up_to, rises_end, up_to_end, later_from_first, holds_in_all, holds_from_zero, newest_means, newest_none}
-use Rattle.store.proofs.Standing.{KeyStands, Stands, new_stands, accepted, nothing_given_stands, after_commit_stands, prune_stands}
+use Rattle.store.proofs.Standing.{KeyStands, Stands, new_stands, accepted_issued, accepted, issued_laws, issued_by_clock, nothing_given_stands, after_commit_stands, prune_stands}
 
 -- What version's answer says of newestAt's.
 
@@ -81,11 +81,11 @@ module _ (m : Meaning) (ever : List Version) (k : ℕ) (key : is_key k ≡ true)
 module _ (depth capacity : ℕ) (m : Meaning) (ever : ℕ → List Version) (stands : Stands depth capacity m ever) where
   commit_law : (clock : ℕ) (ws : List Write) (t : ℕ) → commit_answer depth clock ws m ≡ Ok t → CommitLaw m ever clock t
   commit_law clock ws t e =
-      let a = accepted depth clock ws m t e in
+      let a = accepted issued issued_laws depth clock ws m t e in
       record {
         after_last = a.after_last;
         after_all = λ k key. before_from_up_to m.last t (ever k) a.after_last (stands.of_keys k key).up_to_last;
-        by_clock = a.by_clock;
+        by_clock = issued_by_clock clock m.last t (accepted_issued issued depth clock ws m t e);
       }
 
   pub law_from_stands : StoreLaw depth capacity m ever

@@ -5,11 +5,11 @@ use Rattle.std.proofs.ByRecursion.{All-append}
 use Rattle.std.proofs.lemmas.List.{append-nil, length-drop, length_push}
 use Rattle.std.proofs.lemmas.Bool.{cond_both}
 use Rattle.std.proofs.lemmas.Bool.Decides.{nat_tests}
-use Rattle.snapshot.specs.Limits.{keys, is_key}
+use Rattle.snapshot.specs.Limits.{keys, is_key, is_timestamp}
 use Rattle.snapshot.specs.declared.account.Write.{Write}
 use Rattle.snapshot.specs.declared.fault.Fault.{Fault}
-use Rattle.store.specs.Laws.{Rises, versions_of}
-use Rattle.store.specs.Meaning.{Meaning, version_of, new_store, timestamp_for, written_to, kept_with, with_writes, versions_below, versions_kept, if_room, commit_answer, committed, after_commit, after_prune}
+use Rattle.store.specs.Laws.{Rises, versions_of, IssuingLaws}
+use Rattle.store.specs.Meaning.{Meaning, Issuing, version_of, new_store, issued, timestamp_by, written_to, kept_with, with_writes, versions_below, versions_kept, if_room, commit_answer_by, commit_answer, committed, after_commit, after_prune}
 use Rattle.store.specs.declared.version.Version.{Version}
 use Rattle.store.proofs.Versions.{UpTo, FromZero, EndOf, up_to_weaker, before_from_up_to, rises_push, from_zero_append, end_drop, end_append, outdated_not_all}
 
@@ -115,34 +115,51 @@ new_stands depth capacity deep room =
 -- A commit that is accepted.
 
 -- what a commit that was accepted with this timestamp says
-pub record Accepted (depth clock : ℕ) (ws : List Write) (m : Meaning) (t : ℕ) : Type 0 where
+pub record Accepted (depth : ℕ) (ws : List Write) (m : Meaning) (t : ℕ) : Type 0 where
   -- there is room for what it leaves
   pub room : versions_kept (with_writes depth t ws m) ≤ m.capacity
-  -- the timestamp is later than last
+  -- a commit can have the timestamp
+  pub fits : is_timestamp t ≡ true
+  -- it is later than last
   pub after_last : m.last < t
-  -- and the clock reading, if that is later than last
-  pub by_clock : m.last < clock → t ≡ clock
-
-issued_later : (clock : ℕ) (ws : List Write) (last t : ℕ) → timestamp_for clock ws last ≡ Ok t → (last < t) × (last < clock → t ≡ clock)
-issued_later clock ws last t e = grind (arith, nat_tests)
 
 with_room : (depth : ℕ) (ws : List Write) (m : Meaning) (r : Result ℕ Fault) (t : ℕ) → if_room depth ws m r ≡ Ok t → (versions_kept (with_writes depth t ws m) ≤ m.capacity) × (r ≡ Ok t)
 with_room depth ws m (Ok u) t e = grind (arith, nat_tests)
 with_room depth ws m (Err f) t e = grind arith
 
-pub accepted : (depth clock : ℕ) (ws : List Write) (m : Meaning) (t : ℕ) → commit_answer depth clock ws m ≡ Ok t → Accepted depth clock ws m t
-accepted depth clock ws m t e =
-    let fits = with_room depth ws m (timestamp_for clock ws m.last) t e in
-    let time = issued_later clock ws m.last t fits.1 in
-    record { room = fits.0; after_last = time.0; by_clock = time.1 }
+fit_issued : (issue : Issuing) (clock : ℕ) (ws : List Write) (last t : ℕ) → timestamp_by issue clock ws last ≡ Ok t → issue clock last ≡ Ok t
+fit_issued issue clock ws last t e = grind arith
+
+-- its timestamp is one that was issued
+pub accepted_issued : (issue : Issuing) (depth clock : ℕ) (ws : List Write) (m : Meaning) (t : ℕ) → commit_answer_by issue depth clock ws m ≡ Ok t → issue clock m.last ≡ Ok t
+accepted_issued issue depth clock ws m t e =
+    fit_issued issue clock ws m.last t (with_room depth ws m (timestamp_by issue clock ws m.last) t e).1
+
+pub accepted : (issue : Issuing) → IssuingLaws issue → (depth clock : ℕ) (ws : List Write) (m : Meaning) (t : ℕ) → commit_answer_by issue depth clock ws m ≡ Ok t → Accepted depth ws m t
+accepted issue laws depth clock ws m t e =
+    let time = accepted_issued issue depth clock ws m t e in
+    record {
+      room = (with_room depth ws m (timestamp_by issue clock ws m.last) t e).0;
+      fits = laws.fits clock m.last t time;
+      after_last = laws.later clock m.last t time;
+    }
+
+-- Timestamps as they are chosen.
+
+pub issued_laws : IssuingLaws issued
+issued_laws = record { fits = λ clock last t e. grind (arith, nat_tests); later = λ clock last t e. grind (arith, nat_tests) }
+
+-- one is the clock reading, if that is later than last
+pub issued_by_clock : (clock last t : ℕ) → issued clock last ≡ Ok t → last < clock → t ≡ clock
+issued_by_clock clock last t e lt = grind (arith, nat_tests)
 
 -- The calls.
 
 module _ (depth capacity : ℕ) (m : Meaning) (ever : ℕ → List Version) (stands : Stands depth capacity m ever) where
   -- a commit that is accepted gives each key that it writes a version
-  pub commit_stands : (clock : ℕ) (ws : List Write) (t : ℕ) → 1 ≤ depth → commit_answer depth clock ws m ≡ Ok t → Stands depth capacity (with_writes depth t ws m) (λ k. ever k ++ versions_of (Some t) (written_to k ws))
-  commit_stands clock ws t deep e =
-      let a = accepted depth clock ws m t e in
+  pub commit_stands : (issue : Issuing) → IssuingLaws issue → (clock : ℕ) (ws : List Write) (t : ℕ) → 1 ≤ depth → commit_answer_by issue depth clock ws m ≡ Ok t → Stands depth capacity (with_writes depth t ws m) (λ k. ever k ++ versions_of (Some t) (written_to k ws))
+  commit_stands issue laws clock ws t deep e =
+      let a = accepted issue laws depth clock ws m t e in
       record {
         same_capacity = stands.same_capacity;
         within_capacity = omega arith;
@@ -155,7 +172,7 @@ module _ (depth capacity : ℕ) (m : Meaning) (ever : ℕ → List Version) (sta
   nothing_given_stands = simp append-nil stands
 
   by_answer : (clock : ℕ) (ws : List Write) (r : Result ℕ Fault) → 1 ≤ depth → commit_answer depth clock ws m ≡ r → Stands depth capacity (committed depth ws m r) (λ k. ever k ++ versions_of (result_ok r) (written_to k ws))
-  by_answer clock ws (Ok t) deep e = commit_stands clock ws t deep e
+  by_answer clock ws (Ok t) deep e = commit_stands issued issued_laws clock ws t deep e
   by_answer clock ws (Err f) deep e = nothing_given_stands
 
   -- any commit

@@ -2,12 +2,12 @@
 use Rattle.std.specs.Prelude.{◌≡◌, ℕ, ◌+◌, ◌<◌, ◌≤◌, min, true, List, [], ◌∷◌, ◌++◌, length, Some, None, Ok, Err, Option, slice_index_or}
 use Rattle.std.specs.Result.{result_ok}
 use Rattle.std.specs.List.{ContainsAt as Has, AllByRecursion}
-use Rattle.snapshot.specs.Limits.{keys, is_key, is_time}
+use Rattle.snapshot.specs.Limits.{keys, is_key, is_time, is_timestamp}
 use Rattle.snapshot.specs.declared.account.Reading.{Reading}
 use Rattle.snapshot.specs.declared.account.Write.{Write}
 use Rattle.snapshot.specs.declared.fault.Refusal.TheVariants.{VersionGone}
 use Rattle.store.specs.Calls.{answers_of}
-use Rattle.store.specs.Meaning.{Meaning, version_of, new_store, version_answer, commit_answer, written_to, versions_kept, question_fault}
+use Rattle.store.specs.Meaning.{Meaning, Issuing, version_of, new_store, version_answer, commit_answer, written_to, versions_kept, question_fault}
 use Rattle.store.specs.declared.calls.StoreAnswer.{StoreAnswer}
 use Rattle.store.specs.declared.calls.StoreAnswer.TheVariants as answer
 use Rattle.store.specs.declared.calls.StoreCall.{StoreCall}
@@ -95,6 +95,12 @@ pub record KeyLaw (m : Meaning) (ever : List Version) (k : ℕ) : Type 0 where
   -- and it is refused so exactly where the oldest kept version is later than s
   pub only_where : (s : ℕ) (d : Version) → version_answer m k s ≡ Err (question_fault VersionGone k) → s < (slice_index_or (m.kept k) 0 d).timestamp
   pub every_where : (s : ℕ) (d : Version) → is_time s ≡ true → s < (slice_index_or (m.kept k) 0 d).timestamp → version_answer m k s ≡ Err (question_fault VersionGone k)
+
+-- what the laws rest on of the way in which timestamps are chosen: a commit can have the one that is issued, and it is later
+-- than last
+pub record IssuingLaws (issue : Issuing) : Type 0 where
+  pub fits : (clock last t : ℕ) → issue clock last ≡ Ok t → is_timestamp t ≡ true
+  pub later : (clock last t : ℕ) → issue clock last ≡ Ok t → last < t
 
 -- a commit that was accepted with this timestamp, where the keys ever had these versions
 pub record CommitLaw (m : Meaning) (ever : ℕ → List Version) (clock t : ℕ) : Type 0 where

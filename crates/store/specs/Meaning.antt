@@ -64,15 +64,23 @@ version_answer m k s =
 abbrev pub fit_writes : List Write → Bool
 fit_writes ws = nat_le 1 (length ws) && nat_le (length ws) write_keys && rising_from 0 ws
 
+-- how a timestamp is chosen: from the clock reading and last, or refused
+abbrev pub Issuing : Type 0
+Issuing = ℕ → ℕ → Result ℕ Fault
+
 -- the larger of the clock reading and last + 1; refused for a clock reading at the open end or above, and where no time is left
-abbrev pub issued : ℕ → ℕ → Result ℕ Fault
+abbrev pub issued : Issuing
 issued clock last =
     if nat_le open_end clock then Err (store_fault ClockTooHigh)
     else if nat_le open_end (last + 1) then Err (store_fault NoTimeLeft)
     else Ok (max clock (last + 1))
 
+-- only for fit writes
+abbrev pub timestamp_by : Issuing → ℕ → List Write → ℕ → Result ℕ Fault
+timestamp_by issue clock ws last = if fit_writes ws then issue clock last else Err (store_fault UnfitWrites)
+
 abbrev pub timestamp_for : ℕ → List Write → ℕ → Result ℕ Fault
-timestamp_for clock ws last = if fit_writes ws then issued clock last else Err (store_fault UnfitWrites)
+timestamp_for clock ws last = timestamp_by issued clock ws last
 
 -- the value that the writes give a key
 abbrev pub written_to : ℕ → List Write → Option ℕ
@@ -107,8 +115,11 @@ if_room depth ws m (Ok t) =
     if nat_le (versions_kept (with_writes depth t ws m)) m.capacity then Ok t else Err (store_fault CapacityExceeded)
 if_room depth ws m (Err e) = Err e
 
+abbrev pub commit_answer_by : Issuing → ℕ → ℕ → List Write → Meaning → Result ℕ Fault
+commit_answer_by issue depth clock ws m = if_room depth ws m (timestamp_by issue clock ws m.last)
+
 abbrev pub commit_answer : ℕ → ℕ → List Write → Meaning → Result ℕ Fault
-commit_answer depth clock ws m = if_room depth ws m (timestamp_for clock ws m.last)
+commit_answer depth clock ws m = commit_answer_by issued depth clock ws m
 
 -- what a commit leaves, by its answer
 abbrev pub committed : ℕ → List Write → Meaning → Result ℕ Fault → Meaning

@@ -1,0 +1,13 @@
+-- The law is proved from the laws of its parts.
+use Rattle.lives.proofs.CacheShapeProofs.{cache_shape}
+use Rattle.lives.proofs.LifeProofs.{rests_on_laws, the_rules_lawful}
+use Rattle.lives.proofs.law.law_of_lives.Goals as goal
+
+pub returns-clause-lawful : goal.returns-clause-lawful
+returns-clause-lawful c = the_rules_lawful
+
+pub returns-clause-rests : goal.returns-clause-rests
+returns-clause-rests c = rests_on_laws
+
+pub returns-clause-caches : goal.returns-clause-caches
+returns-clause-caches c = cache_shape

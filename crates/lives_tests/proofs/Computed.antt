@@ -1,0 +1,86 @@
+-- Each life is computed in a lemma of its own.
+use Rattle.std.proofs.Common.{refl}
+use Rattle.store.specs.Meaning.{versions_below}
+use Rattle.lives.specs.Steps.{check, with_chain, with_open, with_open_leg, if_free, with_result, or_else}
+use Rattle.lives_tests.specs.Answered.{Agrees}
+use Rattle.lives_tests.specs.Vectors.{AllAgree}
+use Rattle.lives_tests.specs.Vectors.Designed.{thirty_two_readings, eight_keys, last_timestamp, sixteen_versions, forty_notices, ninth_entry}
+use Rattle.lives_tests.specs.Vectors.Mixed1.{mixed_01, mixed_02, mixed_03, mixed_04}
+use Rattle.lives_tests.specs.Vectors.Mixed2.{mixed_05, mixed_06, mixed_07, mixed_08}
+use Rattle.lives_tests.specs.Vectors.Mixed3.{mixed_09, mixed_10, mixed_11, mixed_12}
+
+agrees_thirty_two_readings : Agrees thirty_two_readings
+unfolding check with_chain with_open with_open_leg if_free with_result or_else versions_below
+agrees_thirty_two_readings = refl
+
+agrees_eight_keys : Agrees eight_keys
+unfolding check with_chain with_open with_open_leg if_free with_result or_else versions_below
+agrees_eight_keys = refl
+
+agrees_last_timestamp : Agrees last_timestamp
+unfolding check with_chain with_open with_open_leg if_free with_result or_else versions_below
+agrees_last_timestamp = refl
+
+agrees_sixteen_versions : Agrees sixteen_versions
+unfolding check with_chain with_open with_open_leg if_free with_result or_else versions_below
+agrees_sixteen_versions = refl
+
+agrees_forty_notices : Agrees forty_notices
+unfolding check with_chain with_open with_open_leg if_free with_result or_else versions_below
+agrees_forty_notices = refl
+
+agrees_ninth_entry : Agrees ninth_entry
+unfolding check with_chain with_open with_open_leg if_free with_result or_else versions_below
+agrees_ninth_entry = refl
+
+agrees_mixed_01 : Agrees mixed_01
+unfolding check with_chain with_open with_open_leg if_free with_result or_else versions_below
+agrees_mixed_01 = refl
+
+agrees_mixed_02 : Agrees mixed_02
+unfolding check with_chain with_open with_open_leg if_free with_result or_else versions_below
+agrees_mixed_02 = refl
+
+agrees_mixed_03 : Agrees mixed_03
+unfolding check with_chain with_open with_open_leg if_free with_result or_else versions_below
+agrees_mixed_03 = refl
+
+agrees_mixed_04 : Agrees mixed_04
+unfolding check with_chain with_open with_open_leg if_free with_result or_else versions_below
+agrees_mixed_04 = refl
+
+agrees_mixed_05 : Agrees mixed_05
+unfolding check with_chain with_open with_open_leg if_free with_result or_else versions_below
+agrees_mixed_05 = refl
+
+agrees_mixed_06 : Agrees mixed_06
+unfolding check with_chain with_open with_open_leg if_free with_result or_else versions_below
+agrees_mixed_06 = refl
+
+agrees_mixed_07 : Agrees mixed_07
+unfolding check with_chain with_open with_open_leg if_free with_result or_else versions_below
+agrees_mixed_07 = refl
+
+agrees_mixed_08 : Agrees mixed_08
+unfolding check with_chain with_open with_open_leg if_free with_result or_else versions_below
+agrees_mixed_08 = refl
+
+agrees_mixed_09 : Agrees mixed_09
+unfolding check with_chain with_open with_open_leg if_free with_result or_else versions_below
+agrees_mixed_09 = refl
+
+agrees_mixed_10 : Agrees mixed_10
+unfolding check with_chain with_open with_open_leg if_free with_result or_else versions_below
+agrees_mixed_10 = refl
+
+agrees_mixed_11 : Agrees mixed_11
+unfolding check with_chain with_open with_open_leg if_free with_result or_else versions_below
+agrees_mixed_11 = refl
+
+agrees_mixed_12 : Agrees mixed_12
+unfolding check with_chain with_open with_open_leg if_free with_result or_else versions_below
+agrees_mixed_12 = refl
+
+pub all_agree : AllAgree
+all_agree =
+    (agrees_thirty_two_readings, (agrees_eight_keys, (agrees_last_timestamp, (agrees_sixteen_versions, (agrees_forty_notices, (agrees_ninth_entry, (agrees_mixed_01, (agrees_mixed_02, (agrees_mixed_03, (agrees_mixed_04, (agrees_mixed_05, (agrees_mixed_06, (agrees_mixed_07, (agrees_mixed_08, (agrees_mixed_09, (agrees_mixed_10, (agrees_mixed_11, (agrees_mixed_12, tt))))))))))))))))))

@@ -1,0 +1,38 @@
+-- The lives that the model is held to.
+use Rattle.std.specs.Prelude.{List, [], ◌∷◌}
+use Rattle.std.specs.List.{AllByRecursion}
+use Rattle.lives_tests.specs.Answered.{Vector, Agrees}
+use Rattle.lives_tests.specs.Vectors.Designed.{thirty_two_readings, eight_keys, last_timestamp, sixteen_versions, forty_notices, ninth_entry}
+use Rattle.lives_tests.specs.Vectors.Mixed1.{mixed_01, mixed_02, mixed_03, mixed_04}
+use Rattle.lives_tests.specs.Vectors.Mixed2.{mixed_05, mixed_06, mixed_07, mixed_08}
+use Rattle.lives_tests.specs.Vectors.Mixed3.{mixed_09, mixed_10, mixed_11, mixed_12}
+pub mod Designed
+pub mod Mixed1
+pub mod Mixed2
+pub mod Mixed3
+
+abbrev pub vectors : List Vector
+vectors =
+    thirty_two_readings
+    ∷ eight_keys
+    ∷ last_timestamp
+    ∷ sixteen_versions
+    ∷ forty_notices
+    ∷ ninth_entry
+    ∷ mixed_01
+    ∷ mixed_02
+    ∷ mixed_03
+    ∷ mixed_04
+    ∷ mixed_05
+    ∷ mixed_06
+    ∷ mixed_07
+    ∷ mixed_08
+    ∷ mixed_09
+    ∷ mixed_10
+    ∷ mixed_11
+    ∷ mixed_12
+    ∷ []
+
+-- the model agrees on each
+abbrev pub AllAgree : Type 0
+AllAgree = AllByRecursion Agrees vectors
