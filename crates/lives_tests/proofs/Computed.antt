@@ -4,7 +4,7 @@ use Rattle.store.specs.Meaning.{versions_below}
 use Rattle.lives.specs.Steps.{check, with_chain, with_open, with_open_leg, if_free, with_result, or_else}
 use Rattle.lives_tests.specs.Answered.{Agrees}
 use Rattle.lives_tests.specs.Vectors.{AllAgree}
-use Rattle.lives_tests.specs.Vectors.Designed.{thirty_two_readings, eight_keys, last_timestamp, sixteen_versions, forty_notices, ninth_entry}
+use Rattle.lives_tests.specs.Vectors.AtLimits.{thirty_two_readings, eight_keys, last_timestamp, sixteen_versions, forty_notices, ninth_entry}
 use Rattle.lives_tests.specs.Vectors.Mixed1.{mixed_01, mixed_02, mixed_03, mixed_04}
 use Rattle.lives_tests.specs.Vectors.Mixed2.{mixed_05, mixed_06, mixed_07, mixed_08}
 use Rattle.lives_tests.specs.Vectors.Mixed3.{mixed_09, mixed_10, mixed_11, mixed_12}

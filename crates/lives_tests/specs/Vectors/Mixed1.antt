@@ -1,4 +1,4 @@
--- Lives in which everything meets, four of twelve.
+-- Pseudo-random lives, most of whose calls are accepted: the first four of twelve.
 use Rattle.std.specs.Prelude.{[], ◌∷◌}
 use Rattle.std.proofs.Common.{lit≤}
 use Rattle.snapshot.specs.declared.fault.Layer.TheVariants as layer

@@ -1,4 +1,4 @@
--- Lives in which everything meets, four of twelve.
+-- Pseudo-random lives, most of whose calls are accepted: the second four of twelve.
 use Rattle.std.specs.Prelude.{[], ◌∷◌}
 use Rattle.std.proofs.Common.{lit≤}
 use Rattle.snapshot.specs.declared.fault.Layer.TheVariants as layer
@@ -48,7 +48,12 @@ mixed_05 =
           ∷ (call.Commit 3 0 0 32 8, committed 0 281474976710656 1 [] (wrote 63 123 ∷ []))
           ∷ (call.Write 0 0 3 144, done)
           ∷ (call.Write 0 0 63 152, done)
-          ∷ (call.Commit 0 0 4 32 8, committed 0 281474976710656 4 [] (wrote 0 125 ∷ wrote 2 134 ∷ wrote 3 144 ∷ wrote 63 152 ∷ []))
+          ∷ (
+            call.Commit 0 0 4 32 8,
+            committed 0 281474976710656 4
+                []
+                (wrote 0 125 ∷ wrote 2 134 ∷ wrote 3 144 ∷ wrote 63 152 ∷ []),
+          )
           ∷ (call.Deliver 19, done)
           ∷ (call.Begin 0 4, leg 0)
           ∷ (call.Write 0 0 0 157, done)
@@ -59,7 +64,12 @@ mixed_05 =
           ∷ (call.Write 0 0 63 176, done)
           ∷ (call.Deliver 19, done)
           ∷ (call.Prune 11, done)
-          ∷ (call.Commit 0 0 5 32 8, committed 0 281474976710656 5 [] (wrote 0 157 ∷ wrote 2 159 ∷ wrote 3 174 ∷ wrote 63 176 ∷ []))
+          ∷ (
+            call.Commit 0 0 5 32 8,
+            committed 0 281474976710656 5
+                []
+                (wrote 0 157 ∷ wrote 2 159 ∷ wrote 3 174 ∷ wrote 63 176 ∷ []),
+          )
           ∷ (call.Begin 0 0, leg 0)
           ∷ (call.Write 0 0 0 183, done)
           ∷ (call.Deliver 27, done)
@@ -90,7 +100,14 @@ mixed_05 =
           ∷ (call.Read 2 3 64, refused 1 layer.Chain 2 3 64)
           ∷ (call.Commit 2 3 281474976710656 32 8, refused 12 layer.Store 2 3 255)
           ∷ (call.Read 1 0 0, value 0)
-          ∷ (call.Commit 2 3 12 32 8, committed 0 0 13 (read 2 0 0 0 0 ∷ read 2 2 0 0 0 ∷ read 2 3 0 0 0 ∷ read 2 63 0 0 0 ∷ read 3 0 0 0 0 ∷ read 3 2 0 0 0 ∷ read 3 3 0 0 0 ∷ read 3 63 0 0 0 ∷ read 4 0 0 0 0 ∷ read 4 2 0 0 0 ∷ read 4 3 0 0 0 ∷ read 4 63 0 0 0 ∷ read 0 0 0 0 0 ∷ read 0 2 0 0 0 ∷ read 0 3 0 0 0 ∷ read 0 63 0 0 0 ∷ []) (wrote 3 235 ∷ []))
+          ∷ (
+            call.Commit 2 3 12 32 8,
+            committed 0 0 13
+                (read 2 0 0 0 0 ∷ read 2 2 0 0 0 ∷ read 2 3 0 0 0 ∷ read 2 63 0 0 0 ∷ read 3 0 0 0 0 ∷ read 3 2 0 0 0
+                ∷ read 3 3 0 0 0 ∷ read 3 63 0 0 0 ∷ read 4 0 0 0 0 ∷ read 4 2 0 0 0 ∷ read 4 3 0 0 0 ∷ read 4 63 0 0 0
+                ∷ read 0 0 0 0 0 ∷ read 0 2 0 0 0 ∷ read 0 3 0 0 0 ∷ read 0 63 0 0 0 ∷ [])
+                (wrote 3 235 ∷ []),
+          )
           ∷ (call.Begin 2 2, leg 0)
           ∷ (call.Count, notices 32 23)
           ∷ (call.Read 2 0 63, value 0)
@@ -158,7 +175,12 @@ mixed_06 =
           ∷ (call.Write 0 0 1 118, done)
           ∷ (call.Write 0 0 2 119, done)
           ∷ (call.Write 0 0 3 126, done)
-          ∷ (call.Commit 0 0 10 32 8, committed 0 281474976710656 10 [] (wrote 0 109 ∷ wrote 1 118 ∷ wrote 2 119 ∷ wrote 3 126 ∷ []))
+          ∷ (
+            call.Commit 0 0 10 32 8,
+            committed 0 281474976710656 10
+                []
+                (wrote 0 109 ∷ wrote 1 118 ∷ wrote 2 119 ∷ wrote 3 126 ∷ []),
+          )
           ∷ (call.Begin 0 2, leg 0)
           ∷ (call.Write 0 0 0 127, done)
           ∷ (call.Begin 3 8, refused 1 layer.Chain 3 255 255)
@@ -280,7 +302,17 @@ mixed_07 =
           ∷ (call.Read 2 2 6, refused 8 layer.Chain 2 2 6)
           ∷ (call.Read 2 2 9, value 0)
           ∷ (call.Commit 2 2 3 31 1, refused 10 layer.Chain 2 2 255)
-          ∷ (call.Commit 2 2 3 32 1, committed 0 0 3 (read 0 11 0 0 0 ∷ read 0 2 0 0 0 ∷ read 0 4 0 0 0 ∷ read 0 0 0 0 0 ∷ read 0 10 0 0 0 ∷ read 0 7 0 0 0 ∷ read 0 9 0 0 0 ∷ read 0 5 0 0 0 ∷ read 0 6 0 0 0 ∷ read 0 3 0 0 0 ∷ read 0 8 0 0 0 ∷ read 0 1 0 0 0 ∷ read 3 0 0 0 0 ∷ read 3 2 0 0 0 ∷ read 3 6 0 0 0 ∷ read 3 3 0 0 0 ∷ read 3 4 0 0 0 ∷ read 3 9 0 0 0 ∷ read 3 11 0 0 0 ∷ read 3 7 0 0 0 ∷ read 3 10 0 0 0 ∷ read 3 1 0 0 0 ∷ read 3 8 0 0 0 ∷ read 3 5 0 0 0 ∷ read 3 1 0 0 0 ∷ read 3 7 0 0 0 ∷ read 3 2 0 0 0 ∷ read 3 4 0 0 0 ∷ read 3 9 0 0 0 ∷ read 3 10 0 0 0 ∷ read 3 3 0 0 0 ∷ read 3 0 0 0 0 ∷ []) (wrote 1 75 ∷ []))
+          ∷ (
+            call.Commit 2 2 3 32 1,
+            committed 0 0 3
+                (read 0 11 0 0 0 ∷ read 0 2 0 0 0 ∷ read 0 4 0 0 0 ∷ read 0 0 0 0 0 ∷ read 0 10 0 0 0 ∷ read 0 7 0 0 0
+                ∷ read 0 9 0 0 0 ∷ read 0 5 0 0 0 ∷ read 0 6 0 0 0 ∷ read 0 3 0 0 0 ∷ read 0 8 0 0 0 ∷ read 0 1 0 0 0
+                ∷ read 3 0 0 0 0 ∷ read 3 2 0 0 0 ∷ read 3 6 0 0 0 ∷ read 3 3 0 0 0 ∷ read 3 4 0 0 0 ∷ read 3 9 0 0 0
+                ∷ read 3 11 0 0 0 ∷ read 3 7 0 0 0 ∷ read 3 10 0 0 0 ∷ read 3 1 0 0 0 ∷ read 3 8 0 0 0 ∷ read 3 5 0 0 0
+                ∷ read 3 1 0 0 0 ∷ read 3 7 0 0 0 ∷ read 3 2 0 0 0 ∷ read 3 4 0 0 0 ∷ read 3 9 0 0 0 ∷ read 3 10 0 0 0
+                ∷ read 3 3 0 0 0 ∷ read 3 0 0 0 0 ∷ [])
+                (wrote 1 75 ∷ []),
+          )
           ∷ (call.Read 3 0 4, value 0)
           ∷ (call.Begin 1 0, leg 0)
           ∷ (call.Read 1 0 1, value 0)
@@ -377,7 +409,17 @@ mixed_08 =
           ∷ (call.Read 0 2 9, refused 8 layer.Chain 0 2 9)
           ∷ (call.Read 0 2 2, value 0)
           ∷ (call.Commit 0 2 5 31 1, refused 10 layer.Chain 0 2 255)
-          ∷ (call.Commit 0 2 7 32 8, committed 0 0 7 (read 2 8 0 0 0 ∷ read 2 11 0 0 0 ∷ read 2 5 0 0 0 ∷ read 2 10 0 0 0 ∷ read 2 4 0 0 0 ∷ read 2 2 0 0 0 ∷ read 2 7 0 0 0 ∷ read 2 3 0 0 0 ∷ read 2 6 0 0 0 ∷ read 2 9 0 0 0 ∷ read 2 0 0 0 0 ∷ read 2 1 0 0 0 ∷ read 0 6 0 0 0 ∷ read 0 4 0 0 0 ∷ read 0 7 0 0 0 ∷ read 0 3 0 0 0 ∷ read 0 5 0 0 0 ∷ read 0 9 0 0 0 ∷ read 0 0 0 0 0 ∷ read 0 8 0 0 0 ∷ read 0 11 0 0 0 ∷ read 0 10 0 0 0 ∷ read 0 1 0 0 0 ∷ read 0 2 0 0 0 ∷ read 1 3 0 0 0 ∷ read 1 0 0 0 0 ∷ read 1 2 0 0 0 ∷ read 1 4 0 0 0 ∷ read 1 1 0 0 0 ∷ read 1 8 0 0 0 ∷ read 1 7 0 0 0 ∷ read 1 6 0 0 0 ∷ []) (wrote 8 151 ∷ []))
+          ∷ (
+            call.Commit 0 2 7 32 8,
+            committed 0 0 7
+                (read 2 8 0 0 0 ∷ read 2 11 0 0 0 ∷ read 2 5 0 0 0 ∷ read 2 10 0 0 0 ∷ read 2 4 0 0 0 ∷ read 2 2 0 0 0
+                ∷ read 2 7 0 0 0 ∷ read 2 3 0 0 0 ∷ read 2 6 0 0 0 ∷ read 2 9 0 0 0 ∷ read 2 0 0 0 0 ∷ read 2 1 0 0 0
+                ∷ read 0 6 0 0 0 ∷ read 0 4 0 0 0 ∷ read 0 7 0 0 0 ∷ read 0 3 0 0 0 ∷ read 0 5 0 0 0 ∷ read 0 9 0 0 0
+                ∷ read 0 0 0 0 0 ∷ read 0 8 0 0 0 ∷ read 0 11 0 0 0 ∷ read 0 10 0 0 0 ∷ read 0 1 0 0 0 ∷ read 0 2 0 0 0
+                ∷ read 1 3 0 0 0 ∷ read 1 0 0 0 0 ∷ read 1 2 0 0 0 ∷ read 1 4 0 0 0 ∷ read 1 1 0 0 0 ∷ read 1 8 0 0 0
+                ∷ read 1 7 0 0 0 ∷ read 1 6 0 0 0 ∷ [])
+                (wrote 8 151 ∷ []),
+          )
           ∷ (call.Hand 3 2 2, leg 3)
           ∷ [];
     }

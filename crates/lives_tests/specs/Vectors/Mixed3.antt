@@ -1,4 +1,4 @@
--- Lives in which everything meets, four of twelve.
+-- Pseudo-random lives, most of whose calls are accepted: the last four of twelve.
 use Rattle.std.specs.Prelude.{[], ◌∷◌}
 use Rattle.std.proofs.Common.{lit≤}
 use Rattle.snapshot.specs.declared.fault.Layer.TheVariants as layer
@@ -211,7 +211,13 @@ mixed_11 =
           ∷ (call.Commit 0 0 0 32 8, refused 3 layer.Chain 0 0 255)
           ∷ (call.Write 1 2 8 145, done)
           ∷ (call.Join 1 2 1 0, leg 3)
-          ∷ (call.Commit 1 3 3 32 8, committed 0 281474976710656 3 [] (wrote 0 132 ∷ wrote 4 124 ∷ wrote 5 119 ∷ wrote 6 95 ∷ wrote 8 133 ∷ wrote 10 116 ∷ wrote 11 105 ∷ wrote 63 118 ∷ []))
+          ∷ (
+            call.Commit 1 3 3 32 8,
+            committed 0 281474976710656 3
+                []
+                (wrote 0 132 ∷ wrote 4 124 ∷ wrote 5 119 ∷ wrote 6 95 ∷ wrote 8 133 ∷ wrote 10 116 ∷ wrote 11 105
+                ∷ wrote 63 118 ∷ []),
+          )
           ∷ (call.Discard 0, done)
           ∷ (call.Read 1 1 255, refused 1 layer.Chain 1 1 255)
           ∷ (call.Begin 1 0, leg 0)
@@ -262,7 +268,12 @@ mixed_11 =
           ∷ (call.Join 1 0 0 6, refused 4 layer.Chain 1 0 255)
           ∷ (call.Read 2 0 6, refused 15 layer.Store 2 0 6)
           ∷ (call.Write 3 0 0 231, done)
-          ∷ (call.Commit 2 0 18446744073709551615 32 8, committed 0 0 0 (read 0 9 0 0 0 ∷ read 0 10 0 0 2 ∷ read 0 0 0 0 2 ∷ read 0 63 0 0 2 ∷ read 0 8 0 0 2 ∷ []) [])
+          ∷ (
+            call.Commit 2 0 18446744073709551615 32 8,
+            committed 0 0 0
+                (read 0 9 0 0 0 ∷ read 0 10 0 0 2 ∷ read 0 0 0 0 2 ∷ read 0 63 0 0 2 ∷ read 0 8 0 0 2 ∷ [])
+                [],
+          )
           ∷ (call.Write 3 0 10 240, done)
           ∷ (call.Write 3 0 4 247, done)
           ∷ (call.Write 3 0 2 249, done)
@@ -276,7 +287,13 @@ mixed_11 =
           ∷ (call.Write 3 2 6 4294967295, done)
           ∷ (call.Join 3 2 1 7, leg 3)
           ∷ (call.Commit 3 3 12 2 7, refused 10 layer.Chain 3 3 255)
-          ∷ (call.Commit 3 3 11 2 8, committed 7 7 11 (read 7 6 4294967295 7 7 ∷ read 7 8 169 7 7 ∷ []) (wrote 0 231 ∷ wrote 2 249 ∷ wrote 4 247 ∷ wrote 6 267 ∷ wrote 7 200 ∷ wrote 8 195 ∷ wrote 9 254 ∷ wrote 10 240 ∷ []))
+          ∷ (
+            call.Commit 3 3 11 2 8,
+            committed 7 7 11
+                (read 7 6 4294967295 7 7 ∷ read 7 8 169 7 7 ∷ [])
+                (wrote 0 231 ∷ wrote 2 249 ∷ wrote 4 247 ∷ wrote 6 267 ∷ wrote 7 200 ∷ wrote 8 195 ∷ wrote 9 254
+                ∷ wrote 10 240 ∷ []),
+          )
           ∷ (call.Deliver 9, done)
           ∷ (call.Write 3 15 255 278, refused 1 layer.Chain 3 15 255)
           ∷ [];
@@ -329,7 +346,13 @@ mixed_12 =
           ∷ (call.Write 1 0 0 132, done)
           ∷ (call.Write 1 0 6 134, done)
           ∷ (call.Write 1 0 8 136, done)
-          ∷ (call.Commit 3 0 6 32 8, committed 0 0 0 (read 6 63 0 0 0 ∷ read 6 6 0 0 0 ∷ read 6 4 0 0 0 ∷ read 6 7 0 0 0 ∷ read 6 2 0 0 0 ∷ read 6 9 0 0 0 ∷ read 6 8 0 0 0 ∷ read 6 5 0 0 0 ∷ []) [])
+          ∷ (
+            call.Commit 3 0 6 32 8,
+            committed 0 0 0
+                (read 6 63 0 0 0 ∷ read 6 6 0 0 0 ∷ read 6 4 0 0 0 ∷ read 6 7 0 0 0 ∷ read 6 2 0 0 0 ∷ read 6 9 0 0 0
+                ∷ read 6 8 0 0 0 ∷ read 6 5 0 0 0 ∷ [])
+                [],
+          )
           ∷ (call.Write 1 0 9 0, done)
           ∷ (call.Write 1 0 2 139, done)
           ∷ (call.Commit 0 0 4 4 0, refused 10 layer.Chain 0 0 255)
@@ -343,7 +366,12 @@ mixed_12 =
           ∷ (call.Write 0 0 0 179, done)
           ∷ (call.Write 2 0 4 185, done)
           ∷ (call.Write 1 1 10 186, done)
-          ∷ (call.Commit 0 0 6 5 1, committed 0 0 6 (read 6 63 0 0 0 ∷ read 6 0 0 0 3 ∷ read 6 11 0 0 3 ∷ read 6 10 0 0 3 ∷ read 6 6 0 0 2 ∷ []) (wrote 0 179 ∷ []))
+          ∷ (
+            call.Commit 0 0 6 5 1,
+            committed 0 0 6
+                (read 6 63 0 0 0 ∷ read 6 0 0 0 3 ∷ read 6 11 0 0 3 ∷ read 6 10 0 0 3 ∷ read 6 6 0 0 2 ∷ [])
+                (wrote 0 179 ∷ []),
+          )
           ∷ (call.Write 1 1 6 0, done)
           ∷ (call.Write 1 2 6 195, done)
           ∷ (call.Write 1 1 63 203, done)
@@ -376,7 +404,13 @@ mixed_12 =
           ∷ (call.Commit 1 1 7 32 8, refused 9 layer.Chain 1 1 255)
           ∷ (call.Write 3 0 64 376, refused 1 layer.Chain 3 0 64)
           ∷ (call.Commit 0 3 7 2 7, refused 10 layer.Chain 0 3 255)
-          ∷ (call.Commit 0 3 11 2 8, committed 3 6 11 (read 2 5 0 0 6 ∷ read 2 4 102 3 6 ∷ []) (wrote 3 222 ∷ wrote 4 213 ∷ wrote 5 353 ∷ wrote 6 310 ∷ wrote 7 223 ∷ wrote 8 305 ∷ wrote 9 216 ∷ wrote 10 299 ∷ []))
+          ∷ (
+            call.Commit 0 3 11 2 8,
+            committed 3 6 11
+                (read 2 5 0 0 6 ∷ read 2 4 102 3 6 ∷ [])
+                (wrote 3 222 ∷ wrote 4 213 ∷ wrote 5 353 ∷ wrote 6 310 ∷ wrote 7 223 ∷ wrote 8 305 ∷ wrote 9 216
+                ∷ wrote 10 299 ∷ []),
+          )
           ∷ (call.Read 3 0 5, value 0)
           ∷ [];
     }

@@ -1,4 +1,4 @@
--- Lives that each go to one of the limits.
+-- Lives that go to the limits of chains, caches, notices and times.
 use Rattle.std.specs.Prelude.{[], ◌∷◌}
 use Rattle.std.proofs.Common.{lit≤}
 use Rattle.snapshot.specs.declared.fault.Layer.TheVariants as layer
@@ -53,7 +53,17 @@ thirty_two_readings =
           ∷ (call.Read 0 1 40, value 9)
           ∷ (call.Commit 0 1 7 31 1, refused 10 layer.Chain 0 1 255)
           ∷ (call.Commit 0 1 7 32 0, refused 10 layer.Chain 0 1 255)
-          ∷ (call.Commit 0 1 7 32 8, committed 0 0 7 (read 0 0 0 0 0 ∷ read 0 1 0 0 0 ∷ read 0 2 0 0 0 ∷ read 0 3 0 0 0 ∷ read 0 4 0 0 0 ∷ read 0 5 0 0 0 ∷ read 0 6 0 0 0 ∷ read 0 7 0 0 0 ∷ read 0 8 0 0 0 ∷ read 0 9 0 0 0 ∷ read 0 10 0 0 0 ∷ read 0 11 0 0 0 ∷ read 0 12 0 0 0 ∷ read 0 13 0 0 0 ∷ read 0 14 0 0 0 ∷ read 0 15 0 0 0 ∷ read 0 16 0 0 0 ∷ read 0 17 0 0 0 ∷ read 0 18 0 0 0 ∷ read 0 19 0 0 0 ∷ read 0 20 0 0 0 ∷ read 0 21 0 0 0 ∷ read 0 22 0 0 0 ∷ read 0 23 0 0 0 ∷ read 0 24 0 0 0 ∷ read 0 25 0 0 0 ∷ read 0 26 0 0 0 ∷ read 0 27 0 0 0 ∷ read 0 28 0 0 0 ∷ read 0 29 0 0 0 ∷ read 0 30 0 0 0 ∷ read 0 31 0 0 0 ∷ []) (wrote 40 9 ∷ []))
+          ∷ (
+            call.Commit 0 1 7 32 8,
+            committed 0 0 7
+                (read 0 0 0 0 0 ∷ read 0 1 0 0 0 ∷ read 0 2 0 0 0 ∷ read 0 3 0 0 0 ∷ read 0 4 0 0 0 ∷ read 0 5 0 0 0
+                ∷ read 0 6 0 0 0 ∷ read 0 7 0 0 0 ∷ read 0 8 0 0 0 ∷ read 0 9 0 0 0 ∷ read 0 10 0 0 0 ∷ read 0 11 0 0 0
+                ∷ read 0 12 0 0 0 ∷ read 0 13 0 0 0 ∷ read 0 14 0 0 0 ∷ read 0 15 0 0 0 ∷ read 0 16 0 0 0
+                ∷ read 0 17 0 0 0 ∷ read 0 18 0 0 0 ∷ read 0 19 0 0 0 ∷ read 0 20 0 0 0 ∷ read 0 21 0 0 0
+                ∷ read 0 22 0 0 0 ∷ read 0 23 0 0 0 ∷ read 0 24 0 0 0 ∷ read 0 25 0 0 0 ∷ read 0 26 0 0 0
+                ∷ read 0 27 0 0 0 ∷ read 0 28 0 0 0 ∷ read 0 29 0 0 0 ∷ read 0 30 0 0 0 ∷ read 0 31 0 0 0 ∷ [])
+                (wrote 40 9 ∷ []),
+          )
           ∷ (call.Count, notices 0 0)
           ∷ [];
     }
@@ -117,7 +127,12 @@ last_timestamp =
           ∷ (call.Prune 18446744073709551615, done)
           ∷ (call.Begin 0 3, leg 0)
           ∷ (call.Read 0 0 1, value 1)
-          ∷ (call.Commit 0 0 0 32 8, committed 281474976710655 281474976710655 0 (read 3 1 1 281474976710655 281474976710655 ∷ []) [])
+          ∷ (
+            call.Commit 0 0 0 32 8,
+            committed 281474976710655 281474976710655 0
+                (read 3 1 1 281474976710655 281474976710655 ∷ [])
+                [],
+          )
           ∷ [];
     }
 
@@ -207,7 +222,13 @@ forty_notices =
           ∷ (call.Read 0 0 5, value 0)
           ∷ (call.Read 0 0 6, value 0)
           ∷ (call.Read 0 0 7, value 0)
-          ∷ (call.Commit 0 0 0 32 8, committed 0 0 0 (read 0 0 0 0 0 ∷ read 0 1 0 0 0 ∷ read 0 2 0 0 0 ∷ read 0 3 0 0 0 ∷ read 0 4 0 0 0 ∷ read 0 5 0 0 0 ∷ read 0 6 0 0 0 ∷ read 0 7 0 0 0 ∷ []) [])
+          ∷ (
+            call.Commit 0 0 0 32 8,
+            committed 0 0 0
+                (read 0 0 0 0 0 ∷ read 0 1 0 0 0 ∷ read 0 2 0 0 0 ∷ read 0 3 0 0 0 ∷ read 0 4 0 0 0 ∷ read 0 5 0 0 0
+                ∷ read 0 6 0 0 0 ∷ read 0 7 0 0 0 ∷ [])
+                [],
+          )
           ∷ (call.Begin 0 1, leg 0)
           ∷ (call.Read 0 0 0, value 0)
           ∷ (call.Read 0 0 1, value 0)
@@ -217,7 +238,13 @@ forty_notices =
           ∷ (call.Read 0 0 5, value 0)
           ∷ (call.Read 0 0 6, value 0)
           ∷ (call.Read 0 0 7, value 0)
-          ∷ (call.Commit 0 0 0 32 8, committed 0 0 0 (read 1 0 0 0 0 ∷ read 1 1 0 0 0 ∷ read 1 2 0 0 0 ∷ read 1 3 0 0 0 ∷ read 1 4 0 0 0 ∷ read 1 5 0 0 0 ∷ read 1 6 0 0 0 ∷ read 1 7 0 0 0 ∷ []) [])
+          ∷ (
+            call.Commit 0 0 0 32 8,
+            committed 0 0 0
+                (read 1 0 0 0 0 ∷ read 1 1 0 0 0 ∷ read 1 2 0 0 0 ∷ read 1 3 0 0 0 ∷ read 1 4 0 0 0 ∷ read 1 5 0 0 0
+                ∷ read 1 6 0 0 0 ∷ read 1 7 0 0 0 ∷ [])
+                [],
+          )
           ∷ (call.Begin 0 2, leg 0)
           ∷ (call.Read 0 0 0, value 0)
           ∷ (call.Read 0 0 1, value 0)
@@ -227,7 +254,13 @@ forty_notices =
           ∷ (call.Read 0 0 5, value 0)
           ∷ (call.Read 0 0 6, value 0)
           ∷ (call.Read 0 0 7, value 0)
-          ∷ (call.Commit 0 0 0 32 8, committed 0 0 0 (read 2 0 0 0 0 ∷ read 2 1 0 0 0 ∷ read 2 2 0 0 0 ∷ read 2 3 0 0 0 ∷ read 2 4 0 0 0 ∷ read 2 5 0 0 0 ∷ read 2 6 0 0 0 ∷ read 2 7 0 0 0 ∷ []) [])
+          ∷ (
+            call.Commit 0 0 0 32 8,
+            committed 0 0 0
+                (read 2 0 0 0 0 ∷ read 2 1 0 0 0 ∷ read 2 2 0 0 0 ∷ read 2 3 0 0 0 ∷ read 2 4 0 0 0 ∷ read 2 5 0 0 0
+                ∷ read 2 6 0 0 0 ∷ read 2 7 0 0 0 ∷ [])
+                [],
+          )
           ∷ (call.Begin 0 3, leg 0)
           ∷ (call.Read 0 0 0, value 0)
           ∷ (call.Read 0 0 1, value 0)
@@ -237,7 +270,13 @@ forty_notices =
           ∷ (call.Read 0 0 5, value 0)
           ∷ (call.Read 0 0 6, value 0)
           ∷ (call.Read 0 0 7, value 0)
-          ∷ (call.Commit 0 0 0 32 8, committed 0 0 0 (read 3 0 0 0 0 ∷ read 3 1 0 0 0 ∷ read 3 2 0 0 0 ∷ read 3 3 0 0 0 ∷ read 3 4 0 0 0 ∷ read 3 5 0 0 0 ∷ read 3 6 0 0 0 ∷ read 3 7 0 0 0 ∷ []) [])
+          ∷ (
+            call.Commit 0 0 0 32 8,
+            committed 0 0 0
+                (read 3 0 0 0 0 ∷ read 3 1 0 0 0 ∷ read 3 2 0 0 0 ∷ read 3 3 0 0 0 ∷ read 3 4 0 0 0 ∷ read 3 5 0 0 0
+                ∷ read 3 6 0 0 0 ∷ read 3 7 0 0 0 ∷ [])
+                [],
+          )
           ∷ (call.Begin 0 4, leg 0)
           ∷ (call.Read 0 0 0, value 0)
           ∷ (call.Read 0 0 1, value 0)
@@ -247,7 +286,13 @@ forty_notices =
           ∷ (call.Read 0 0 5, value 0)
           ∷ (call.Read 0 0 6, value 0)
           ∷ (call.Read 0 0 7, value 0)
-          ∷ (call.Commit 0 0 0 32 8, committed 0 0 0 (read 4 0 0 0 0 ∷ read 4 1 0 0 0 ∷ read 4 2 0 0 0 ∷ read 4 3 0 0 0 ∷ read 4 4 0 0 0 ∷ read 4 5 0 0 0 ∷ read 4 6 0 0 0 ∷ read 4 7 0 0 0 ∷ []) [])
+          ∷ (
+            call.Commit 0 0 0 32 8,
+            committed 0 0 0
+                (read 4 0 0 0 0 ∷ read 4 1 0 0 0 ∷ read 4 2 0 0 0 ∷ read 4 3 0 0 0 ∷ read 4 4 0 0 0 ∷ read 4 5 0 0 0
+                ∷ read 4 6 0 0 0 ∷ read 4 7 0 0 0 ∷ [])
+                [],
+          )
           ∷ (call.Begin 0 5, leg 0)
           ∷ (call.Read 0 0 0, value 0)
           ∷ (call.Read 0 0 1, value 0)
@@ -257,7 +302,13 @@ forty_notices =
           ∷ (call.Read 0 0 5, value 0)
           ∷ (call.Read 0 0 6, value 0)
           ∷ (call.Read 0 0 7, value 0)
-          ∷ (call.Commit 0 0 0 32 8, committed 0 0 0 (read 5 0 0 0 0 ∷ read 5 1 0 0 0 ∷ read 5 2 0 0 0 ∷ read 5 3 0 0 0 ∷ read 5 4 0 0 0 ∷ read 5 5 0 0 0 ∷ read 5 6 0 0 0 ∷ read 5 7 0 0 0 ∷ []) [])
+          ∷ (
+            call.Commit 0 0 0 32 8,
+            committed 0 0 0
+                (read 5 0 0 0 0 ∷ read 5 1 0 0 0 ∷ read 5 2 0 0 0 ∷ read 5 3 0 0 0 ∷ read 5 4 0 0 0 ∷ read 5 5 0 0 0
+                ∷ read 5 6 0 0 0 ∷ read 5 7 0 0 0 ∷ [])
+                [],
+          )
           ∷ (call.Begin 0 6, leg 0)
           ∷ (call.Read 0 0 0, value 0)
           ∷ (call.Read 0 0 1, value 0)
@@ -267,7 +318,13 @@ forty_notices =
           ∷ (call.Read 0 0 5, value 0)
           ∷ (call.Read 0 0 6, value 0)
           ∷ (call.Read 0 0 7, value 0)
-          ∷ (call.Commit 0 0 0 32 8, committed 0 0 0 (read 6 0 0 0 0 ∷ read 6 1 0 0 0 ∷ read 6 2 0 0 0 ∷ read 6 3 0 0 0 ∷ read 6 4 0 0 0 ∷ read 6 5 0 0 0 ∷ read 6 6 0 0 0 ∷ read 6 7 0 0 0 ∷ []) [])
+          ∷ (
+            call.Commit 0 0 0 32 8,
+            committed 0 0 0
+                (read 6 0 0 0 0 ∷ read 6 1 0 0 0 ∷ read 6 2 0 0 0 ∷ read 6 3 0 0 0 ∷ read 6 4 0 0 0 ∷ read 6 5 0 0 0
+                ∷ read 6 6 0 0 0 ∷ read 6 7 0 0 0 ∷ [])
+                [],
+          )
           ∷ (call.Begin 0 7, leg 0)
           ∷ (call.Read 0 0 0, value 0)
           ∷ (call.Read 0 0 1, value 0)
@@ -277,7 +334,13 @@ forty_notices =
           ∷ (call.Read 0 0 5, value 0)
           ∷ (call.Read 0 0 6, value 0)
           ∷ (call.Read 0 0 7, value 0)
-          ∷ (call.Commit 0 0 0 32 8, committed 0 0 0 (read 7 0 0 0 0 ∷ read 7 1 0 0 0 ∷ read 7 2 0 0 0 ∷ read 7 3 0 0 0 ∷ read 7 4 0 0 0 ∷ read 7 5 0 0 0 ∷ read 7 6 0 0 0 ∷ read 7 7 0 0 0 ∷ []) [])
+          ∷ (
+            call.Commit 0 0 0 32 8,
+            committed 0 0 0
+                (read 7 0 0 0 0 ∷ read 7 1 0 0 0 ∷ read 7 2 0 0 0 ∷ read 7 3 0 0 0 ∷ read 7 4 0 0 0 ∷ read 7 5 0 0 0
+                ∷ read 7 6 0 0 0 ∷ read 7 7 0 0 0 ∷ [])
+                [],
+          )
           ∷ (call.Begin 0 0, leg 0)
           ∷ (call.Write 0 0 0 7, done)
           ∷ (call.Write 0 0 1 7, done)
@@ -287,7 +350,12 @@ forty_notices =
           ∷ (call.Write 0 0 5 7, done)
           ∷ (call.Write 0 0 6 7, done)
           ∷ (call.Write 0 0 7 7, done)
-          ∷ (call.Commit 0 0 50 32 8, committed 0 281474976710656 50 [] (wrote 0 7 ∷ wrote 1 7 ∷ wrote 2 7 ∷ wrote 3 7 ∷ wrote 4 7 ∷ wrote 5 7 ∷ wrote 6 7 ∷ wrote 7 7 ∷ []))
+          ∷ (
+            call.Commit 0 0 50 32 8,
+            committed 0 281474976710656 50
+                []
+                (wrote 0 7 ∷ wrote 1 7 ∷ wrote 2 7 ∷ wrote 3 7 ∷ wrote 4 7 ∷ wrote 5 7 ∷ wrote 6 7 ∷ wrote 7 7 ∷ []),
+          )
           ∷ (call.Count, notices 32 32)
           ∷ (call.Begin 0 2, leg 0)
           ∷ (call.Read 0 0 3, value 0)
@@ -327,7 +395,13 @@ ninth_entry =
           ∷ (call.Read 0 0 5, value 0)
           ∷ (call.Read 0 0 6, value 0)
           ∷ (call.Read 0 0 7, value 0)
-          ∷ (call.Commit 0 0 0 32 8, committed 0 0 0 (read 0 0 0 0 0 ∷ read 0 1 0 0 0 ∷ read 0 2 0 0 0 ∷ read 0 3 0 0 0 ∷ read 0 4 0 0 0 ∷ read 0 5 0 0 0 ∷ read 0 6 0 0 0 ∷ read 0 7 0 0 0 ∷ []) [])
+          ∷ (
+            call.Commit 0 0 0 32 8,
+            committed 0 0 0
+                (read 0 0 0 0 0 ∷ read 0 1 0 0 0 ∷ read 0 2 0 0 0 ∷ read 0 3 0 0 0 ∷ read 0 4 0 0 0 ∷ read 0 5 0 0 0
+                ∷ read 0 6 0 0 0 ∷ read 0 7 0 0 0 ∷ [])
+                [],
+          )
           ∷ (call.Begin 0 0, leg 0)
           ∷ (call.Read 0 0 0, value 0)
           ∷ (call.Read 0 0 8, value 0)
