@@ -5,9 +5,9 @@ use Rattle.lives.specs.Steps.{check, with_chain, with_open, with_open_leg, if_fr
 use Rattle.lives_tests.specs.Answered.{Agrees}
 use Rattle.lives_tests.specs.Vectors.{AllAgree}
 use Rattle.lives_tests.specs.Vectors.AtLimits.{thirty_two_readings, eight_keys, last_timestamp, sixteen_versions, forty_notices, ninth_entry}
-use Rattle.lives_tests.specs.Vectors.Mixed1.{mixed_01, mixed_02, mixed_03, mixed_04}
-use Rattle.lives_tests.specs.Vectors.Mixed2.{mixed_05, mixed_06, mixed_07, mixed_08}
-use Rattle.lives_tests.specs.Vectors.Mixed3.{mixed_09, mixed_10, mixed_11, mixed_12}
+use Rattle.lives_tests.specs.Vectors.Mixed1.{mixed_01, mixed_02, mixed_03, mixed_04, mixed_05}
+use Rattle.lives_tests.specs.Vectors.Mixed2.{mixed_06, mixed_07, mixed_08, mixed_09, mixed_10}
+use Rattle.lives_tests.specs.Vectors.Mixed3.{mixed_11, mixed_12, mixed_13, mixed_14}
 
 agrees_thirty_two_readings : Agrees thirty_two_readings
 unfolding check with_chain with_open with_open_leg if_free with_result or_else versions_below
@@ -81,6 +81,14 @@ agrees_mixed_12 : Agrees mixed_12
 unfolding check with_chain with_open with_open_leg if_free with_result or_else versions_below
 agrees_mixed_12 = refl
 
+agrees_mixed_13 : Agrees mixed_13
+unfolding check with_chain with_open with_open_leg if_free with_result or_else versions_below
+agrees_mixed_13 = refl
+
+agrees_mixed_14 : Agrees mixed_14
+unfolding check with_chain with_open with_open_leg if_free with_result or_else versions_below
+agrees_mixed_14 = refl
+
 pub all_agree : AllAgree
 all_agree =
-    (agrees_thirty_two_readings, (agrees_eight_keys, (agrees_last_timestamp, (agrees_sixteen_versions, (agrees_forty_notices, (agrees_ninth_entry, (agrees_mixed_01, (agrees_mixed_02, (agrees_mixed_03, (agrees_mixed_04, (agrees_mixed_05, (agrees_mixed_06, (agrees_mixed_07, (agrees_mixed_08, (agrees_mixed_09, (agrees_mixed_10, (agrees_mixed_11, (agrees_mixed_12, tt))))))))))))))))))
+    (agrees_thirty_two_readings, (agrees_eight_keys, (agrees_last_timestamp, (agrees_sixteen_versions, (agrees_forty_notices, (agrees_ninth_entry, (agrees_mixed_01, (agrees_mixed_02, (agrees_mixed_03, (agrees_mixed_04, (agrees_mixed_05, (agrees_mixed_06, (agrees_mixed_07, (agrees_mixed_08, (agrees_mixed_09, (agrees_mixed_10, (agrees_mixed_11, (agrees_mixed_12, (agrees_mixed_13, (agrees_mixed_14, tt))))))))))))))))))))

@@ -3,9 +3,9 @@ use Rattle.std.specs.Prelude.{List, [], ◌∷◌}
 use Rattle.std.specs.List.{AllByRecursion}
 use Rattle.lives_tests.specs.Answered.{Vector, Agrees}
 use Rattle.lives_tests.specs.Vectors.AtLimits.{thirty_two_readings, eight_keys, last_timestamp, sixteen_versions, forty_notices, ninth_entry}
-use Rattle.lives_tests.specs.Vectors.Mixed1.{mixed_01, mixed_02, mixed_03, mixed_04}
-use Rattle.lives_tests.specs.Vectors.Mixed2.{mixed_05, mixed_06, mixed_07, mixed_08}
-use Rattle.lives_tests.specs.Vectors.Mixed3.{mixed_09, mixed_10, mixed_11, mixed_12}
+use Rattle.lives_tests.specs.Vectors.Mixed1.{mixed_01, mixed_02, mixed_03, mixed_04, mixed_05}
+use Rattle.lives_tests.specs.Vectors.Mixed2.{mixed_06, mixed_07, mixed_08, mixed_09, mixed_10}
+use Rattle.lives_tests.specs.Vectors.Mixed3.{mixed_11, mixed_12, mixed_13, mixed_14}
 pub mod AtLimits
 pub mod Mixed1
 pub mod Mixed2
@@ -31,6 +31,8 @@ vectors =
     ∷ mixed_10
     ∷ mixed_11
     ∷ mixed_12
+    ∷ mixed_13
+    ∷ mixed_14
     ∷ []
 
 -- the model agrees on each

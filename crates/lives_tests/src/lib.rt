@@ -9,5 +9,5 @@ pub fn lives() -> usize
     ensures count { result ≡ length vectors }
     ensures agree { AllAgree }
 {
-    18
+    20
 }
