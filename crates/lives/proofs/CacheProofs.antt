@@ -23,14 +23,18 @@ look_up_finds k (x ∷ xs) e =
     (λ t h. ((0, omega arith, λ _. cc), grind (arith, nat_tests)))
     (λ _ h. let rest = look_up_finds k xs e h in (has_append_right (x ∷ []) xs e rest.0, rest.1))
 
-if_meets_lem : (i : Interval) (o : Option CacheEntry) (e : CacheEntry) → if_meets i o ≡ Some e → (o ≡ Some e) × (meets_reading i e.reading ≡ true)
+if_meets_lem :
+    (i : Interval) (o : Option CacheEntry) (e : CacheEntry) → if_meets i o ≡ Some e →
+    (o ≡ Some e) × (meets_reading i e.reading ≡ true)
 if_meets_lem i None e = λ h. absurd (grind arith)
 if_meets_lem i (Some x) e =
     cond_both (meets_reading i x.reading) _ _ (λ o. o ≡ Some e → (Some x ≡ Some e) × (meets_reading i e.reading ≡ true))
     (λ t h. let same : x ≡ e = cc in (h, rw same at t))
     (λ _ h. absurd (grind arith))
 
-answer_is : (i : Interval) (k : ℕ) (c : Cache) (e : CacheEntry) → answering i k c ≡ Some e → Has c e × (e.key ≡ k) × (meets_reading i e.reading ≡ true)
+answer_is :
+    (i : Interval) (k : ℕ) (c : Cache) (e : CacheEntry) → answering i k c ≡ Some e →
+    Has c e × (e.key ≡ k) × (meets_reading i e.reading ≡ true)
 answer_is i k c e h =
     let met = if_meets_lem i (look_up k c) e h in
     let found = look_up_finds k c e met.0 in
@@ -48,7 +52,10 @@ all_used P e c all here =
     All-drop P (length (without e.key c ++ (e ∷ [])) - cache_keys) _ (All-push P (without e.key c) e (all_without P e.key c all) here)
 
 -- what a notice makes of an entry of its key is all that it adds
-pub all_noticed : (P Q : CacheEntry → Type 0) (n : Notice) → ((e : CacheEntry) → P e → Q e) → ((e : CacheEntry) → e.key ≡ n.key → P e → Q (entry_of e.key (noticed n.reading e.reading))) → (c : Cache) → AllByRecursion P c → AllByRecursion Q (with_notice n c)
+pub all_noticed :
+    (P Q : CacheEntry → Type 0) (n : Notice) → ((e : CacheEntry) → P e → Q e) →
+    ((e : CacheEntry) → e.key ≡ n.key → P e → Q (entry_of e.key (noticed n.reading e.reading))) → (c : Cache) →
+    AllByRecursion P c → AllByRecursion Q (with_notice n c)
 all_noticed P Q n keep change [] all = tt
 all_noticed P Q n keep change (e ∷ es) all =
     cond_both (e.key == n.key) _ _ (AllByRecursion Q)
@@ -65,10 +72,12 @@ stored_adds : (s : ℕ) (e : CacheEntry) (c : Cache) → AllByRecursion (AddedTo
 stored_adds s e c =
     cond_both (is_later_than s (look_up e.key c)) c (used_latest e c) (AllByRecursion (AddedTo c e)) (λ _. added e c) (λ _. used_adds e c)
 
-told_change : (n : Notice) (c : Cache) (e : CacheEntry) → e.key ≡ n.key → Has c e → ToldTo c n (entry_of e.key (noticed n.reading e.reading))
+told_change :
+    (n : Notice) (c : Cache) (e : CacheEntry) → e.key ≡ n.key → Has c e →
+    ToldTo c n (entry_of e.key (noticed n.reading e.reading))
 told_change n c e same there =
     let Told : Reading → Type 0 = λ r. ToldTo c n (entry_of e.key r) in
-    let widens : e.reading.timestamp ≡ n.reading.timestamp → Told (widened e.reading n.reading.promise) = λ t. inr (inr (record { old = e; there = there; same_key = same; same_time = t; now₀ = refl })) in
+    let widens : e.reading.timestamp ≡ n.reading.timestamp → Told (widened e.reading n.reading.promise) = λ t. inr (inr (record { old = e; there = there; same_key = same; same_time = t; as_widened = refl })) in
     let unless_later = cond_both (e.reading.timestamp == n.reading.timestamp) _ _ Told (λ t. widens (eqb-true _ _ t)) (λ _. inl there) in
     cond_both (nat_lt e.reading.timestamp n.reading.timestamp) _ _ Told (λ _. inr (inl (cc))) (λ _. unless_later)
 

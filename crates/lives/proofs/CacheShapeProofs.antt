@@ -62,13 +62,13 @@ used_found e c s =
     let none = All-drop (λ x. x.key ≡ e.key → ⊥) (length others + 1 - cache_keys) others (none_without e.key c s.apart) in
     rw (last_eight_push others e) (look_up_last e _ none)
 
-used_shaped : (e : CacheEntry) (c : Cache) → Shaped c → Shaped (used_latest e c)
+pub used_shaped : (e : CacheEntry) (c : Cache) → Shaped c → Shaped (used_latest e c)
 used_shaped e c s =
     let others : Cache = without e.key c in
     let apart = apart_push others e (apart_without e.key c s.apart) (none_without e.key c s.apart) in
     record { few_enough = simp length-drop (omega arith); apart = apart_drop (length (others ++ (e ∷ [])) - cache_keys) _ apart }
 
-stored_shaped : (s : ℕ) (e : CacheEntry) (c : Cache) → Shaped c → Shaped (with_answer s e c)
+pub stored_shaped : (s : ℕ) (e : CacheEntry) (c : Cache) → Shaped c → Shaped (with_answer s e c)
 stored_shaped s e c shaped =
     cond_both (is_later_than s (look_up e.key c)) c (used_latest e c) Shaped (λ _. shaped) (λ _. used_shaped e c shaped)
 
@@ -89,7 +89,7 @@ apart_noticed n [] a = tt
 apart_noticed n (x ∷ xs) a =
     cond_both (x.key == n.key) _ _ Apart (λ _. a) (λ _. (none_noticed x.key n xs a.0, apart_noticed n xs a.1))
 
-noticed_shaped : (n : Notice) (c : Cache) → Shaped c → Shaped (with_notice n c)
+pub noticed_shaped : (n : Notice) (c : Cache) → Shaped c → Shaped (with_notice n c)
 noticed_shaped n c s =
     record {
       few_enough = omega (arith, simp length-map at (ap length (noticed_keys n c)));

@@ -30,10 +30,12 @@ use Rattle.lives.proofs.Legs.{NoWider, leg_sound, on_worker_lem, also_open, hand
 use Rattle.lives.proofs.NoticeProofs.{at_position, all_removed}
 use Rattle.lives.proofs.Outcomes.{at_check, at_chain, at_open, at_open_leg, at_free, at_result, at_else}
 use Rattle.lives.proofs.Readings.{History, TrueReading, AllTrue, AnsweredAt, widened_true, store_true}
-use Rattle.lives.proofs.Sound.{LegSound, Sound}
+use Rattle.lives.proofs.Sound.{TimesSound, WritesSound, LegSound, Sound}
 
 -- the engine is sound after what comes of a call
-abbrev pub After : (limits : ChainLimits) (store : NewStore) (h : History) (told : ℕ → ChainTold) (m : Meaning) (s : Engine) (c : Call) → Outcome (AnswerTo c) → Type 0
+abbrev pub After :
+    (limits : ChainLimits) (store : NewStore) (h : History) (told : ℕ → ChainTold) (m : Meaning) (s : Engine) (c : Call) →
+    Outcome (AnswerTo c) → Type 0
 After limits store h told m s c o =
     Sound store limits (history_with c (answer_in o) h) (told_with c (answer_in o) told) (store_with store.depth c (answer_in o) m) (engine_in s o)
 
@@ -125,19 +127,21 @@ module _
         let ws : List Write = parts.write_sets.after_join leg.writes other.writes in
         let new : OpenLeg = record { worker = w; interval = i; writes = ws } in
         let written : ℕ → Option ℕ = λ k. option_or ((told p).written j k) ((told p).written l k) in
-        let new_sound : LegSound last limits chain.readings written new = record {
-          worker = (and_parts _ _ range).1;
+        let times : TimesSound last chain.readings i = record {
           some = both.some;
-          to_open_end = omega (arith, both.high, first.to_open_end);
-          from_known = omega (arith, both.low, first.from_known, second.from_known);
-          low_read = omega (arith, both.low, first.low_read, second.low_read);
-          high_read = omega (arith, both.high, first.high_read, second.high_read);
-          rising = parts.write_set_laws.join_rises leg.writes other.writes first.rising second.rising;
-          few_writes = leb-true _ _ few;
-          as_told = λ k. parts.write_set_laws.join_has leg.writes other.writes k first.rising second.rising
-              ∙ ap (λ o. option_or o (written_to k leg.writes)) (second.as_told k)
-              ∙ ap (λ o. option_or ((told p).written j k) o) (first.as_told k);
+          to_open_end = omega (arith, both.high, first.times.to_open_end);
+          from_known = omega (arith, both.low, first.times.from_known, second.times.from_known);
+          low_read = omega (arith, both.low, first.times.low_read, second.times.low_read);
+          high_read = omega (arith, both.high, first.times.high_read, second.times.high_read);
         } in
+        let sound_writes : WritesSound limits written ws = record {
+          rising = parts.write_set_laws.join_rises leg.writes other.writes first.writes.rising second.writes.rising;
+          few = leb-true _ _ few;
+          as_told = λ k. parts.write_set_laws.join_has leg.writes other.writes k first.writes.rising second.writes.rising
+              ∙ ap (λ o. option_or o (written_to k leg.writes)) (second.writes.as_told k)
+              ∙ ap (λ o. option_or ((told p).written j k) o) (first.writes.as_told k);
+        } in
+        let new_sound : LegSound last limits chain.readings written new = record { worker = (and_parts _ _ range).1; times = times; writes = sound_writes } in
         let no_wider_first : NoWider leg new = record { low = omega (arith, both.low); high = omega (arith, both.high) } in
         let no_wider_second : NoWider other new = record { low = omega (arith, both.low); high = omega (arith, both.high) } in
         place_sound store limits h told m s sound p _ (Some _) (join_sound h last limits (told p) chain before l leg is_open j other other_open new no_wider_first no_wider_second written (ltb-true _ _ room) new_sound))))))))
@@ -151,10 +155,12 @@ module _
         let w : Write = record { key = k; value = x } in
         let before = chain_at store limits h told m s sound p chain here in
         let of_leg = leg_sound last limits (told p) chain before.legs l leg is_open in
-        place_sound store limits h told m s sound p _ (Some _) (write_leg_sound h last limits (told p) chain before l leg is_open _ (with_at k (Some x) ((told p).written l))
-        (parts.write_set_laws.write_rises w leg.writes (and_parts _ _ range).1 of_leg.rising)
-        (leb-true _ _ few)
-        (λ i. parts.write_set_laws.write_has w leg.writes i of_leg.rising ∙ ap (λ o. if i == k then (Some x) else o) (of_leg.as_told i))))))
+        let sound_writes : WritesSound limits (with_at k (Some x) ((told p).written l)) (parts.write_sets.after_write w leg.writes) = record {
+          rising = parts.write_set_laws.write_rises w leg.writes (and_parts _ _ range).1 of_leg.writes.rising;
+          few = leb-true _ _ few;
+          as_told = λ i. parts.write_set_laws.write_has w leg.writes i of_leg.writes.rising ∙ ap (λ o. if i == k then Some x else o) (of_leg.writes.as_told i);
+        } in
+        place_sound store limits h told m s sound p _ (Some _) (write_leg_sound h last limits (told p) chain before l leg is_open _ (with_at k (Some x) ((told p).written l)) sound_writes))))
 
     pub abandon_keeps : (p : ℕ) → Kept (call.Abandon p) (step rules store.depth (call.Abandon p) s)
     abandon_keeps p =
@@ -164,13 +170,17 @@ module _
         free_sound store limits h told m s sound p))
 
     -- a true entry that is put into a cache leaves it true
-    added_true : (c c' : Cache) (e : CacheEntry) → AllByRecursion (AddedTo c e) c' → TrueReading h last e.key e.reading → AllTrue h last c → AllTrue h last c'
+    added_true :
+        (c c' : Cache) (e : CacheEntry) → AllByRecursion (AddedTo c e) c' → TrueReading h last e.key e.reading →
+        AllTrue h last c → AllTrue h last c'
     added_true c c' e added true_e all =
         let P : CacheEntry → Type 0 = λ x. TrueReading h last x.key x.reading in
         All-weaker (AddedTo c e) P (λ x from. ⊎_elim (λ has. all-has P c x all has) (λ same. subst P (sym same) true_e) from) c' added
 
     -- so does a true notice
-    told_true : (n : Notice) (c : Cache) → TrueReading h last n.key n.reading → AllTrue h last c → AllTrue h last (parts.caches.after_notice n c)
+    told_true :
+        (n : Notice) (c : Cache) → TrueReading h last n.key n.reading → AllTrue h last c →
+        AllTrue h last (parts.caches.after_notice n c)
     told_true n c true_n all =
         let P : CacheEntry → Type 0 = λ x. TrueReading h last x.key x.reading in
         let widen : (x : CacheEntry) → WidenedBy n c x → P x = λ x by.
@@ -178,7 +188,7 @@ module _
         let true_old : P old = all-has P c old all by.there in
         let rises = (sound.stands.of_keys old.key true_old.of_key).rises in
         let same_key : TrueReading h last old.key n.reading = subst (λ k. TrueReading h last k n.reading) (sym by.same_key) true_n in
-        subst P (sym by.now₀) (widened_true h last old.key old.reading n.reading rises true_old same_key by.same_time) in
+        subst P (sym by.as_widened) (widened_true h last old.key old.reading n.reading rises true_old same_key by.same_time) in
         All-weaker (ToldTo c n) P (λ x from.
         ⊎_elim
         (λ has. all-has P c x all has)
@@ -195,9 +205,11 @@ module _
         leg.worker cache all
 
     -- what the store answers at the high end meets the interval
-    store_meets : (k : ℕ) (rs : List LegReading) (written : ℕ → Option ℕ) (leg : OpenLeg) (r : Reading) → LegSound last limits rs written leg → AnsweredAt h last k leg.interval.high r → meets_reading leg.interval r ≡ true
+    store_meets :
+        (k : ℕ) (rs : List LegReading) (written : ℕ → Option ℕ) (leg : OpenLeg) (r : Reading) →
+        LegSound last limits rs written leg → AnsweredAt h last k leg.interval.high r → meets_reading leg.interval r ≡ true
     store_meets k rs written leg r of_leg a =
-        and_from _ _ (le-leb _ _ (omega (arith, of_leg.some, of_leg.from_known, a.as_far))) (le-leb _ _ a.not_later)
+        and_from _ _ (le-leb _ _ (omega (arith, of_leg.times.some, of_leg.times.from_known, a.as_far))) (le-leb _ _ a.not_later)
 
     pub read_keeps : (p l k : ℕ) → Kept (call.Read p l k) (step rules store.depth (call.Read p l k) s)
     read_keeps p l k =
@@ -210,7 +222,7 @@ module _
         let cache : Cache = s.caches leg.worker in
         at_else P _ _ _
         (λ x found.
-        let never : (told p).written l k ≡ None → ⊥ = λ none. let z : Some x ≡ None = sym found ∙ of_leg.as_told k ∙ none in grind arith in
+        let never : (told p).written l k ≡ None → ⊥ = λ none. let z : Some x ≡ None = sym found ∙ of_leg.writes.as_told k ∙ none in grind arith in
         more_told store limits h told m s sound p _ chain here (read_again h last limits (told p) chain before l k x (λ none. absurd (never none))))
         (λ _.
         at_else P _ _ _

@@ -20,7 +20,9 @@ module _ (store : NewStore) (limits : ChainLimits) (h : History) (told : ℕ →
   chain_at p chain e = MatchOption-at_some (Unit {0}) (ChainSound h last limits (told p)) chain e (sound.chains p)
 
   -- the chain at a place becomes another
-  pub place_sound : (p : ℕ) (told' : ChainTold) (chain : Option Chain) → IfSome chain (ChainSound h last limits told') → Sound store limits h (with_at p told' told) m (with_place p chain s)
+  pub place_sound :
+      (p : ℕ) (told' : ChainTold) (chain : Option Chain) → IfSome chain (ChainSound h last limits told') →
+      Sound store limits h (with_at p told' told) m (with_place p chain s)
   place_sound p told' chain here =
       record {
         same_store = sound.same_store;
@@ -44,7 +46,9 @@ module _ (store : NewStore) (limits : ChainLimits) (h : History) (told : ℕ →
       }
 
   -- the chain at a place stays, and more is told of it
-  pub more_told : (p : ℕ) (told' : ChainTold) (chain : Chain) → s.places p ≡ Some chain → ChainSound h last limits told' chain → Sound store limits h (with_at p told' told) m s
+  pub more_told :
+      (p : ℕ) (told' : ChainTold) (chain : Chain) → s.places p ≡ Some chain → ChainSound h last limits told' chain →
+      Sound store limits h (with_at p told' told) m s
   more_told p told' chain here ok =
       let there : IfSome (s.places p) (ChainSound h last limits told') = subst (λ c. IfSome c (ChainSound h last limits told')) (sym here) ok in
       record {

@@ -29,17 +29,31 @@ use Rattle.lives.specs.declared.records.LegReading.{LegReading}
 use Rattle.lives.proofs.CallProofs.{After}
 use Rattle.lives.proofs.Changes.{chain_at, free_sound}
 use Rattle.lives.proofs.Legs.{open_below, leg_sound, chain_on}
-use Rattle.lives.proofs.NoticeProofs.{raised_wait, written_each}
+use Rattle.lives.proofs.NoticeProofs.{all_raised_wait, written_each}
 use Rattle.lives.proofs.Outcomes.{at_check, at_open_leg, at_result}
-use Rattle.lives.proofs.Readings.{History, TrueReading, GoesOn, same_goes_on, true_on, commit_goes_on, commit_true}
+use Rattle.lives.proofs.Readings.{History, TrueReading, AllTrue, GoesOn, same_goes_on, true_on, commit_goes_on, commit_true}
 use Rattle.lives.proofs.Sound.{LegSound, Covers, ReadingSound, Shown, ChainSound, Sound, Backed, Confirmed}
 use Rattle.lives.proofs.Updates.{at_each}
+
+-- what backs a value does so where the history goes on
+pub backed_on :
+    (h : History) (last : ℕ) (h' : History) (last' : ℕ) → GoesOn h last h' last' → (low high : ℕ) (x : ValueRead) →
+    Backed h last low high x → Backed h' last' low high x
+backed_on h last h' last' on low high x b =
+    record {
+      reading = b.reading;
+      is_true = true_on h last h' last' on x.key b.reading b.is_true;
+      same_value = b.same_value;
+      from_low = b.from_low;
+      to_high = b.to_high;
+    }
 
 -- The only open leg.
 
 running_is : (state : LegState) (leg : OpenLeg) → state ≡ running leg → is_running state ≡ true
 running_is state leg e = ap is_running e
 
+-- an open leg is the one that a commit names
 only_one : (l : ℕ) (states : ℕ → LegState) (n j : ℕ) (leg : OpenLeg) → only_open l states n ≡ true → j < n → states j ≡ running leg → j ≡ l
 only_one l states zero j leg only lt e = absurd (omega arith)
 only_one l states (suc n) j leg only lt e =
@@ -58,11 +72,15 @@ all_pass : {X : Type 0} (test : X → Bool) (xs : List X) → AllByRecursion (λ
 all_pass test [] each = refl
 all_pass test (x ∷ xs) each = and_from _ _ each.0 (all_pass test xs each.1)
 
-greatest_below : (n a : ℕ) (rs : List ChainReading) → a ≤ n → AllByRecursion (λ r. r.reading.timestamp ≤ n) rs → fold (λ a r. max a r.reading.timestamp) a rs ≤ n
+greatest_below :
+    (n a : ℕ) (rs : List ChainReading) → a ≤ n → AllByRecursion (λ r. r.reading.timestamp ≤ n) rs →
+    fold (λ a r. max a r.reading.timestamp) a rs ≤ n
 greatest_below n a [] le each = le
 greatest_below n a (r ∷ rs) le each = greatest_below n (max a r.reading.timestamp) rs (omega (arith, each.0)) each.1
 
-least_above : (n a : ℕ) (rs : List ChainReading) → n ≤ a → AllByRecursion (λ r. n ≤ r.reading.promise) rs → n ≤ fold (λ a r. min a r.reading.promise) a rs
+least_above :
+    (n a : ℕ) (rs : List ChainReading) → n ≤ a → AllByRecursion (λ r. n ≤ r.reading.promise) rs →
+    n ≤ fold (λ a r. min a r.reading.promise) a rs
 least_above n a [] le each = le
 least_above n a (r ∷ rs) le each = least_above n (min a r.reading.promise) rs (omega (arith, each.0)) each.1
 
@@ -95,11 +113,15 @@ module _
 
     ends : agreed_ends leg.interval.low leg.interval.high made ≡ true
     ends =
-        let below = greatest_below leg.interval.low 0 made (omega arith) (All-map (λ r. r.reading.timestamp ≤ leg.interval.low) (λ (r : LegReading). r.made) chain.readings (All-weaker Around (λ r. r.made.reading.timestamp ≤ leg.interval.low) (λ r a. a.0) chain.readings all_around)) in
-        let above = least_above leg.interval.high open_end made of_leg.to_open_end (All-map (λ r. leg.interval.high ≤ r.reading.promise) (λ (r : LegReading). r.made) chain.readings (All-weaker Around (λ r. leg.interval.high ≤ r.made.reading.promise) (λ r a. a.1) chain.readings all_around)) in
-        let low : leg.interval.low ≡ greatest_timestamp made = omega (arith, of_leg.low_read) in
-        let high : leg.interval.high ≡ least_promise made = omega (arith, of_leg.high_read) in
-        and_from _ _ (and_from _ _ (eq-eqb _ _ low) (eq-eqb _ _ high)) (le-leb _ _ of_leg.some)
+        let each_below = All-map (λ r. r.reading.timestamp ≤ leg.interval.low) (λ (r : LegReading). r.made) chain.readings
+        (All-weaker Around (λ r. r.made.reading.timestamp ≤ leg.interval.low) (λ r a. a.0) chain.readings all_around) in
+        let each_above = All-map (λ r. leg.interval.high ≤ r.reading.promise) (λ (r : LegReading). r.made) chain.readings
+        (All-weaker Around (λ r. leg.interval.high ≤ r.made.reading.promise) (λ r a. a.1) chain.readings all_around) in
+        let below = greatest_below leg.interval.low 0 made (omega arith) each_below in
+        let above = least_above leg.interval.high open_end made of_leg.times.to_open_end each_above in
+        let low : leg.interval.low ≡ greatest_timestamp made = omega (arith, of_leg.times.low_read) in
+        let high : leg.interval.high ≡ least_promise made = omega (arith, of_leg.times.high_read) in
+        and_from _ _ (and_from _ _ (eq-eqb _ _ low) (eq-eqb _ _ high)) (le-leb _ _ of_leg.times.some)
 
     sound_made : list_all sound_reading made ≡ true
     sound_made =
@@ -110,12 +132,12 @@ module _
     few : few_enough made leg.writes ≡ true
     few =
         let readings : length made ≤ limit.chain_readings = omega (arith, length-map chain.readings (λ r. r.made), sound.few_readings, limit_laws.readings) in
-        let writes : length leg.writes ≤ limit.write_keys = omega (arith, of_leg.few_writes, limit_laws.writes) in
+        let writes : length leg.writes ≤ limit.write_keys = omega (arith, of_leg.writes.few, limit_laws.writes) in
         and_from _ _ (le-leb _ _ readings) (le-leb _ _ writes)
 
     -- the book takes it, if its timestamp is sound
     for_the_book_lem : (t : ℕ) → sound_timestamp t made leg.writes ≡ true → lawful (account_for chain leg t) ≡ true
-    for_the_book_lem t time = and_from _ _ (and_from _ _ (and_from _ _ (and_from _ _ few sound_made) of_leg.rising) ends) time
+    for_the_book_lem t time = and_from _ _ (and_from _ _ (and_from _ _ (and_from _ _ few sound_made) of_leg.writes.rising) ends) time
 
     -- no promise is above last
     promises_known : AllByRecursion (λ r. r.reading.promise ≤ last) made
@@ -180,13 +202,20 @@ module _
         All-weaker (λ w. (is_key w.key ≡ true) × (written_to w.key ws ≡ Some w.value)) (λ w. (worker : ℕ) → TrueReading h' t w.key (notice_of t w worker).reading)
         (λ w has worker. commit_true h last t w.value w.key ws has.0 a.after_last (sound.stands.of_keys w.key has.0).up_to_last has.1)
         ws (written_each ws rising) in
-        let others : (q : ℕ) → IfSome (s.places q) (ChainSound h' t limits (told q)) = λ q. cases_on (ChainSound h last limits (told q)) (ChainSound h' t limits (told q)) (chain_on h last h' t on limits (told q)) (s.places q) (sound.chains q) in
+        let others : (q : ℕ) → IfSome (s.places q) (ChainSound h' t limits (told q)) = λ q.
+        cases_on (ChainSound h last limits (told q)) (ChainSound h' t limits (told q)) (chain_on h last h' t on limits (told q)) (s.places q) (sound.chains q) in
+        let entries : (w : ℕ) → AllTrue h' t (s.caches w) = λ w.
+        All-weaker (λ e. TrueReading h last e.key e.reading) (λ e. TrueReading h' t e.key e.reading)
+        (λ e. true_on h last h' t on e.key e.reading) (s.caches w) (sound.caches w) in
+        let waiting : AllByRecursion (λ n. TrueReading h' t n.key n.reading) s.notices.waiting =
+        All-weaker (λ n. TrueReading h last n.key n.reading) (λ n. TrueReading h' t n.key n.reading)
+        (λ n. true_on h last h' t on n.key n.reading) s.notices.waiting sound.notices in
         record {
           same_store = ap (with_writes depth t ws) sound.same_store;
           stands = commit_stands depth store.capacity s.store h sound.stands parts.timestamps parts.timestamp_laws clock ws t store.not_none answer;
           before_end = ltb-true t open_end (and_parts _ _ a.fits).1;
-          caches = λ w. All-weaker (λ e. TrueReading h last e.key e.reading) (λ e. TrueReading h' t e.key e.reading) (λ e. true_on h last h' t on e.key e.reading) (s.caches w) (sound.caches w);
-          notices = raised_wait (λ n. TrueReading h' t n.key n.reading) parts.caches.holds_key s.caches t ws s.notices noticed (All-weaker (λ n. TrueReading h last n.key n.reading) (λ n. TrueReading h' t n.key n.reading) (λ n. true_on h last h' t on n.key n.reading) s.notices.waiting sound.notices);
+          caches = entries;
+          notices = all_raised_wait (λ n. TrueReading h' t n.key n.reading) parts.caches.holds_key s.caches t ws s.notices noticed waiting;
           chains = at_each (λ q c. IfSome c (ChainSound h' t limits (told q))) p None s.places tt others;
         }
 
@@ -216,9 +245,9 @@ module _
             subst sound_with same (free_sound store limits h told m s sound p),
             (
               record {
-                some = of_leg.some;
+                some = of_leg.times.some;
                 backed = subst backed_with same (backed h last limits limit_laws (told p) chain before l leg is_open only sound.before_end);
-                its_writes = of_leg.as_told;
+                its_writes = of_leg.writes.as_told;
                 after_history = λ some. absurd (omega arith);
                 after_promises = λ some. absurd (omega arith);
                 for_the_book = for_the_book_lem h last limits limit_laws (told p) chain before l leg is_open only sound.before_end 0 refl;
@@ -235,21 +264,18 @@ module _
           let a = commit_accepted parts.timestamps parts.timestamp_laws depth clock ws s.store t answer in
           let on = commit_goes_on h last t ws a.after_last in
           let known = promises_known h last limits limit_laws (told p) chain before l leg is_open only sound.before_end in
-          let later : AllByRecursion (λ r. r.reading.promise < t) (map (λ r. r.made) chain.readings) = All-weaker (λ r. r.reading.promise ≤ last) (λ r. r.reading.promise < t) (λ r le. omega (arith, a.after_last)) _ known in
-          let time : sound_timestamp t (map (λ r. r.made) chain.readings) ws ≡ true = and_from _ _ a.fits (all_pass (λ r. nat_lt r.reading.promise t) _ (All-weaker (λ r. r.reading.promise < t) (λ r. nat_lt r.reading.promise t ≡ true) (λ r lt. lt-ltb _ _ lt) _ later)) in
-          let on_backed : (x : ValueRead) → Backed h last i.low i.high x → Backed (with_commit t ws) t i.low i.high x = λ x b. record {
-            reading = b.reading;
-            is_true = true_on h last (with_commit t ws) t on x.key b.reading b.is_true;
-            same_value = b.same_value;
-            from_low = b.from_low;
-            to_high = b.to_high;
-          } in (
-            store_commit_sound clock t ws p of_leg.rising answer,
+          let later : AllByRecursion (λ r. r.reading.promise < t) (map (λ r. r.made) chain.readings) =
+          All-weaker (λ r. r.reading.promise ≤ last) (λ r. r.reading.promise < t) (λ r le. omega (arith, a.after_last)) _ known in
+          let all_later = All-weaker (λ r. r.reading.promise < t) (λ r. nat_lt r.reading.promise t ≡ true) (λ r lt. lt-ltb _ _ lt) _ later in
+          let time : sound_timestamp t (map (λ r. r.made) chain.readings) ws ≡ true = and_from _ _ a.fits (all_pass (λ r. nat_lt r.reading.promise t) _ all_later) in
+          let backed_before = backed h last limits limit_laws (told p) chain before l leg is_open only sound.before_end in
+          let h' : History = with_commit t ws in (
+            store_commit_sound clock t ws p of_leg.writes.rising answer,
             (
               record {
-                some = of_leg.some;
-                backed = All-weaker (Backed h last i.low i.high) (Backed (with_commit t ws) t i.low i.high) on_backed (told p).outside (backed h last limits limit_laws (told p) chain before l leg is_open only sound.before_end);
-                its_writes = of_leg.as_told;
+                some = of_leg.times.some;
+                backed = All-weaker (Backed h last i.low i.high) (Backed h' t i.low i.high) (backed_on h last h' t on i.low i.high) (told p).outside backed_before;
+                its_writes = of_leg.writes.as_told;
                 after_history = λ _ k key. before_from_up_to last t (h k) a.after_last (sound.stands.of_keys k key).up_to_last;
                 after_promises = λ _. later;
                 for_the_book = for_the_book_lem h last limits limit_laws (told p) chain before l leg is_open only sound.before_end t time;

@@ -8,9 +8,9 @@ use Rattle.snapshot.specs.declared.fault.EngineFault.{EngineFault}
 use Rattle.snapshot.specs.declared.fault.Refusal.TheVariants.{VersionGone}
 use Rattle.store.specs.Meaning.{version_of, versions_below, question_fault}
 use Rattle.store.specs.declared.version.Version.{Version}
-use Rattle.lives.specs.Examples.{BreakIn, ForgottenPromise, LatePromise, table, break_in, break_in_account, read_then_pruned, pruned, written_behind, read_from_cache}
+use Rattle.lives.specs.Examples.{BreakIn, ForgottenPromise, LatePromise, table, break_in, break_in_account, read_then_pruned, pruned, then_committed, forgets_promise, written_behind, promises_late, read_from_cache}
 use Rattle.lives.specs.Law.{ValueAt, AccountLaw, GoneLaw, LawOfLives, leg_at}
-use Rattle.lives.specs.Lives.{Event, event, Life, AtEach, NewStore, ValueRead, engine_after, life_of, history_of, store_after, told_of}
+use Rattle.lives.specs.Lives.{Event, event, Life, AtEach, NewStore, ValueRead, value_read, engine_after, life_of, history_of, store_after, told_of}
 use Rattle.lives.specs.Rules.{Rules, the_rules}
 use Rattle.lives.specs.Steps.{check, with_chain, with_open, with_open_leg, if_free, with_result, or_else}
 use Rattle.lives.specs.declared.calls.Call.TheVariants as call
@@ -29,10 +29,6 @@ not_five_at_thirty : ValueAt 30 5 zones → ⊥
 not_five_at_thirty (v, held, five) =
     let none : AllByRecursion (λ w. 30 ≤ w.timestamp → w.value ≡ 5 → ⊥) zones = (λ late _. absurd (omega arith), (λ late _. absurd (omega arith), (λ _ five. absurd (omega arith), tt))) in
     all-has (λ w. 30 ≤ w.timestamp → w.value ≡ 5 → ⊥) zones v none held.there (held.newest_one.1.1.0 (omega arith)) five
-
--- a read of this key, which was answered with this value
-abbrev value_read : ℕ → ℕ → ValueRead
-value_read k x = record { key = k; value = x }
 
 -- What the law says of a commit and of a read that was refused as gone, where a life ends with it.
 
@@ -131,20 +127,34 @@ break_in_shows =
       gone = gone_law;
     }
 
+-- A wrong rule: what the law would say of the account is what the history does not hold.
+
 pub forgotten_promise : ForgottenPromise
 unfolding check with_chain with_open with_open_leg if_free with_result or_else versions_below
 forgotten_promise =
+    let broken : LawOfLives forgets_promise table (then_committed forgets_promise written_behind) → ⊥ = λ law.
+    not_five_at_thirty ((law.commits.0 0 0 0 32 8 _ refl).agrees 30 (omega arith, omega arith)).0 in
     record {
       committed = refl;
-      zone = six_at_thirty;
-      unlawful = λ lawful. not_five_at_thirty (((lawful.by_calls table (written_behind ++ (call.Commit 0 0 0 32 8 ∷ []))).commits.0 0 0 0 32 8 _ refl).agrees 30 (omega arith, omega arith)).0;
+      has_read = refl;
+      at_thirty = (omega arith, omega arith);
+      six = six_at_thirty;
+      not_five = not_five_at_thirty;
+      contradicts = broken;
+      unlawful = λ lawful. broken (lawful.by_calls table (written_behind ++ (call.Commit 0 0 0 32 8 ∷ [])));
     }
 
 pub late_promise : LatePromise
 unfolding check with_chain with_open with_open_leg if_free with_result or_else versions_below
 late_promise =
+    let broken : LawOfLives promises_late table (then_committed promises_late read_from_cache) → ⊥ = λ law.
+    not_five_at_thirty ((law.commits.0 0 0 0 32 8 _ refl).agrees 30 (omega arith, omega arith)).0 in
     record {
       committed = refl;
-      zone = six_at_thirty;
-      unlawful = λ lawful. not_five_at_thirty (((lawful.by_calls table (read_from_cache ++ (call.Commit 0 0 0 32 8 ∷ []))).commits.0 0 0 0 32 8 _ refl).agrees 30 (omega arith, omega arith)).0;
+      has_read = refl;
+      at_thirty = (omega arith, omega arith);
+      six = six_at_thirty;
+      not_five = not_five_at_thirty;
+      contradicts = broken;
+      unlawful = λ lawful. broken (lawful.by_calls table (read_from_cache ++ (call.Commit 0 0 0 32 8 ∷ [])));
     }

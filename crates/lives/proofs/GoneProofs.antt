@@ -24,9 +24,13 @@ use Rattle.lives.proofs.Readings.{History}
 use Rattle.lives.proofs.Sound.{Sound}
 
 -- the store's only refusal of that name
-gone_fault : (k s : ℕ) (o : Option Reading) (f : Fault) → result_and (in_range k s) (ok_or o (question_fault VersionGone k)) ≡ Err f → f.refusal ≡ VersionGone → result_and (in_range k s) (ok_or o (question_fault VersionGone k)) ≡ Err (question_fault VersionGone k)
+gone_fault :
+    (k s : ℕ) (o : Option Reading) (f : Fault) → result_and (in_range k s) (ok_or o (question_fault VersionGone k)) ≡ Err f →
+    f.refusal ≡ VersionGone →
+    result_and (in_range k s) (ok_or o (question_fault VersionGone k)) ≡ Err (question_fault VersionGone k)
 gone_fault k s o f e gone = grind arith
 
+-- what follows where a call is refused as gone
 abbrev IfGone : {X : Type 0} → Type 0 → Outcome X → Type 0
 IfGone P (refused f) = f.fault.refusal ≡ VersionGone → P
 IfGone P (accepted x s) = Unit {0}
@@ -42,7 +46,9 @@ module _
     abbrev rules : Rules
     rules = rules_of parts
 
-    pub read_gone : (p l k : ℕ) (f : EngineFault) → Err f ≡ answer_in (step rules store.depth (call.Read p l k) s) → f.fault.refusal ≡ VersionGone → GoneLaw h m.kept (leg_at s p l) k
+    pub read_gone :
+        (p l k : ℕ) (f : EngineFault) → Err f ≡ answer_in (step rules store.depth (call.Read p l k) s) →
+        f.fault.refusal ≡ VersionGone → GoneLaw h m.kept (leg_at s p l) k
     read_gone p l k f e gone =
         let D : Type 0 = GoneLaw h m.kept (leg_at s p l) k in
         let P : Outcome ℕ → Type 0 = IfGone D in

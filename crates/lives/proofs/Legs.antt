@@ -5,19 +5,19 @@ use Rattle.std.proofs.ByRecursion.{All-push, All-weaker, has_append_left, has_pu
 use Rattle.std.proofs.lemmas.List.{length_push, map_push}
 use Rattle.std.proofs.lemmas.List.Sums.{fold_push}
 use Rattle.std.proofs.lemmas.Bool.{and_parts, cases_eq, cases_lt, leb-true}
-use Rattle.snapshot.specs.Accounts.{greatest_timestamp, least_promise, rising_from}
+use Rattle.snapshot.specs.Accounts.{greatest_timestamp, least_promise}
 use Rattle.snapshot.specs.Intervals.{from_to, meets_reading, narrowed}
 use Rattle.snapshot.specs.declared.account.Reading.{Reading}
 use Rattle.snapshot.specs.declared.account.Write.{Write}
-use Rattle.store.specs.Meaning.{written_to}
+use Rattle.snapshot.specs.declared.interval.Interval.{Interval}
 use Rattle.snapshot.specs.Limits.{open_end, is_worker}
 use Rattle.snapshot.specs.Limits as limit
 use Rattle.lives.specs.Engines.{OpenLeg, LegState, unused, running, ended, on_worker, holding, within, Chain, with_leg, end_leg, open_leg, add_reading, no_legs, new_chain}
-use Rattle.lives.specs.Lives.{ChainTold, ValueRead, nothing_told, leg_wrote, outside_with, leg_read}
+use Rattle.lives.specs.Lives.{ChainTold, ValueRead, value_read, nothing_told, leg_wrote, outside_with, leg_read}
 use Rattle.lives.specs.declared.limits.ChainLimits.{ChainLimits}
 use Rattle.lives.specs.declared.records.LegReading.{LegReading}
 use Rattle.lives.proofs.Readings.{History, TrueReading, GoesOn, true_on}
-use Rattle.lives.proofs.Sound.{LegSound, LegsSound, IfRunning, Covers, ReadingSound, Shown, ChainSound}
+use Rattle.lives.proofs.Sound.{TimesSound, WritesSound, LegSound, LegsSound, IfRunning, Covers, ReadingSound, Shown, ChainSound}
 use Rattle.lives.proofs.Updates.{at_same, at_other, at_each, at_each_two}
 
 -- Open legs.
@@ -56,6 +56,7 @@ pub record GoesOnIn (legs : ℕ → LegState) (leg : OpenLeg) : Type 0 where
 abbrev pub AllGoOn : (ℕ → LegState) → (ℕ → LegState) → Type 0
 AllGoOn legs legs' = (l : ℕ) (leg : OpenLeg) → legs l ≡ running leg → GoesOnIn legs' leg
 
+-- what covers a leg's interval covers that of the one it goes on in
 covers_on : (legs legs' : ℕ → LegState) → AllGoOn legs legs' → (r : LegReading) → Covers legs r → Covers legs' r
 covers_on legs legs' on r c =
     let g = on c.number c.leg c.is_open in
@@ -68,7 +69,9 @@ covers_on legs legs' on r c =
     }
 
 -- then every reading still covers one
-all_covered : (legs legs' : ℕ → LegState) → AllGoOn legs legs' → (rs : List LegReading) → AllByRecursion (Covers legs) rs → AllByRecursion (Covers legs') rs
+all_covered :
+    (legs legs' : ℕ → LegState) → AllGoOn legs legs' → (rs : List LegReading) → AllByRecursion (Covers legs) rs →
+    AllByRecursion (Covers legs') rs
 all_covered legs legs' on rs c = All-weaker (Covers legs) (Covers legs') (covers_on legs legs' on) rs c
 
 -- The legs of a chain.
@@ -83,7 +86,9 @@ module _ (last : ℕ) (limits : ChainLimits) (told : ChainTold) (c : Chain) (leg
   leg_sound l leg e = if_running (LegSound last limits c.readings (told.written l)) (c.legs l) leg e (legs.each l)
 
   -- a leg becomes another, or ends
-  pub set_sound : (l : ℕ) (state : LegState) → l < c.opened → IfRunning (LegSound last limits c.readings (told.written l)) state → LegsSound last limits told (with_leg l state c)
+  pub set_sound :
+      (l : ℕ) (state : LegState) → l < c.opened → IfRunning (LegSound last limits c.readings (told.written l)) state →
+      LegsSound last limits told (with_leg l state c)
   set_sound l state lt s =
       record {
         few_legs = legs.few_legs;
@@ -92,7 +97,9 @@ module _ (last : ℕ) (limits : ChainLimits) (told : ChainTold) (c : Chain) (leg
       }
 
   -- a leg becomes another, with other writes
-  pub write_sound : (l : ℕ) (leg : OpenLeg) (ws : ℕ → Option ℕ) → l < c.opened → LegSound last limits c.readings ws leg → LegsSound last limits (leg_wrote l ws told) (with_leg l (running leg) c)
+  pub write_sound :
+      (l : ℕ) (leg : OpenLeg) (ws : ℕ → Option ℕ) → l < c.opened → LegSound last limits c.readings ws leg →
+      LegsSound last limits (leg_wrote l ws told) (with_leg l (running leg) c)
   write_sound l leg ws lt s =
       record {
         few_legs = legs.few_legs;
@@ -101,7 +108,9 @@ module _ (last : ℕ) (limits : ChainLimits) (told : ChainTold) (c : Chain) (leg
       }
 
   -- the next leg is opened
-  pub open_sound : (leg : OpenLeg) (ws : ℕ → Option ℕ) → c.opened < limit.legs → LegSound last limits c.readings ws leg → LegsSound last limits (leg_wrote c.opened ws told) (open_leg leg c)
+  pub open_sound :
+      (leg : OpenLeg) (ws : ℕ → Option ℕ) → c.opened < limit.legs → LegSound last limits c.readings ws leg →
+      LegsSound last limits (leg_wrote c.opened ws told) (open_leg leg c)
   open_sound leg ws room s =
       record {
         few_legs = room;
@@ -116,7 +125,9 @@ module _ (last : ℕ) (limits : ChainLimits) (told : ChainTold) (c : Chain) (leg
 
 module _ (h : History) (last : ℕ) (limits : ChainLimits) (told : ChainTold) (c : Chain) (sound : ChainSound h last limits told c) where
   -- the same readings, with other legs in which the open ones go on
-  other_legs : (told' : ChainTold) (c' : Chain) → LegsSound last limits told' c' → c'.readings ≡ c.readings → told'.outside ≡ told.outside → AllGoOn c.legs c'.legs → ChainSound h last limits told' c'
+  other_legs :
+      (told' : ChainTold) (c' : Chain) → LegsSound last limits told' c' → c'.readings ≡ c.readings →
+      told'.outside ≡ told.outside → AllGoOn c.legs c'.legs → ChainSound h last limits told' c'
   other_legs told' c' legs same outside on =
       record {
         legs = legs;
@@ -150,7 +161,9 @@ module _ (h : History) (last : ℕ) (limits : ChainLimits) (told : ChainTold) (c
       (or j leg e)
 
   -- a further leg is opened
-  pub also_open : (leg : OpenLeg) (ws : ℕ → Option ℕ) → c.opened < limit.legs → LegSound last limits c.readings ws leg → ChainSound h last limits (leg_wrote c.opened ws told) (open_leg leg c)
+  pub also_open :
+      (leg : OpenLeg) (ws : ℕ → Option ℕ) → c.opened < limit.legs → LegSound last limits c.readings ws leg →
+      ChainSound h last limits (leg_wrote c.opened ws told) (open_leg leg c)
   also_open leg ws room s =
       other_legs _ _ (open_sound last limits told c sound.legs leg ws room s) refl refl (replaced_on c leg refl (λ j other e. inl e))
 
@@ -163,17 +176,7 @@ module _ (h : History) (last : ℕ) (limits : ChainLimits) (told : ChainTold) (c
 
     pub on_worker_lem : (w : ℕ) → is_worker w ≡ true → LegSound last limits c.readings (told.written l) (on_worker w leg)
     on_worker_lem w worker =
-        record {
-          worker = worker;
-          some = here.some;
-          to_open_end = here.to_open_end;
-          from_known = here.from_known;
-          low_read = here.low_read;
-          high_read = here.high_read;
-          rising = here.rising;
-          few_writes = here.few_writes;
-          as_told = here.as_told;
-        }
+        record { worker = worker; times = here.times; writes = here.writes }
 
     -- another leg takes its place
     set_on : (new : OpenLeg) → NoWider leg new → AllGoOn c.legs (with_leg l (running new) c).legs
@@ -197,7 +200,9 @@ module _ (h : History) (last : ℕ) (limits : ChainLimits) (told : ChainTold) (c
         (cases_eq j l)
 
     -- A leg is handed on to another worker.
-    pub hand_sound : (w : ℕ) → is_worker w ≡ true → c.opened < limit.legs → ChainSound h last limits (leg_wrote c.opened (told.written l) told) (open_leg (on_worker w leg) (end_leg l c))
+    pub hand_sound :
+        (w : ℕ) → is_worker w ≡ true → c.opened < limit.legs →
+        ChainSound h last limits (leg_wrote c.opened (told.written l) told) (open_leg (on_worker w leg) (end_leg l c))
     hand_sound w worker room =
         let ended_legs = end_sound last limits told c sound.legs l below in
         let stays : (j : ℕ) (other : OpenLeg) → c.legs j ≡ running other → ((end_leg l c).legs j ≡ running other) ⊎ NoWider other (on_worker w leg) = λ j other e.
@@ -208,24 +213,18 @@ module _ (h : History) (last : ℕ) (limits : ChainLimits) (told : ChainTold) (c
         other_legs _ _ (open_sound last limits told (end_leg l c) ended_legs (on_worker w leg) (told.written l) room (on_worker_lem w worker)) refl refl (replaced_on (end_leg l c) (on_worker w leg) refl stays)
 
     -- A leg writes.
-    pub write_leg_sound : (ws : List Write) (written : ℕ → Option ℕ) → rising_from 0 ws ≡ true → length ws ≤ limits.write_keys → ((k : ℕ) → written_to k ws ≡ written k) → ChainSound h last limits (leg_wrote l written told) (with_leg l (running (holding ws leg)) c)
-    write_leg_sound ws written rising few alike =
-        let new : LegSound last limits c.readings written (holding ws leg) = record {
-          worker = here.worker;
-          some = here.some;
-          to_open_end = here.to_open_end;
-          from_known = here.from_known;
-          low_read = here.low_read;
-          high_read = here.high_read;
-          rising = rising;
-          few_writes = few;
-          as_told = alike;
-        } in
+    pub write_leg_sound :
+        (ws : List Write) (written : ℕ → Option ℕ) → WritesSound limits written ws →
+        ChainSound h last limits (leg_wrote l written told) (with_leg l (running (holding ws leg)) c)
+    write_leg_sound ws written sound_writes =
+        let new : LegSound last limits c.readings written (holding ws leg) = record { worker = here.worker; times = here.times; writes = sound_writes } in
         other_legs _ _ (write_sound last limits told c sound.legs l (holding ws leg) written below new) refl refl (set_on (holding ws leg) (record { low = omega arith; high = omega arith }))
 
     -- Two legs are joined.
     module _ (m : ℕ) (other : OpenLeg) (other_open : c.legs m ≡ running other) (new : OpenLeg) (first : NoWider leg new) (second : NoWider other new) where
-      join_stays : (j : ℕ) (third : OpenLeg) → c.legs j ≡ running third → ((end_leg m (end_leg l c)).legs j ≡ running third) ⊎ NoWider third new
+      join_stays :
+          (j : ℕ) (third : OpenLeg) → c.legs j ≡ running third →
+          ((end_leg m (end_leg l c)).legs j ≡ running third) ⊎ NoWider third new
       join_stays j third e =
           ⊎_elim
           (λ same. let one = same_width leg third (one_leg c.legs j l third leg same e is_open) in inr (record { low = omega (arith, one.low, first.low); high = omega (arith, one.high, first.high) }))
@@ -236,7 +235,9 @@ module _ (h : History) (last : ℕ) (limits : ChainLimits) (told : ChainTold) (c
           (cases_eq j m))
           (cases_eq j l)
 
-      pub join_sound : (written : ℕ → Option ℕ) → c.opened < limit.legs → LegSound last limits c.readings written new → ChainSound h last limits (leg_wrote c.opened written told) (open_leg new (end_leg m (end_leg l c)))
+      pub join_sound :
+          (written : ℕ → Option ℕ) → c.opened < limit.legs → LegSound last limits c.readings written new →
+          ChainSound h last limits (leg_wrote c.opened written told) (open_leg new (end_leg m (end_leg l c)))
       join_sound written room sound_new =
           let below_too : m < c.opened = open_below last limits told c sound.legs m other other_open in
           let ended_legs = end_sound last limits told (end_leg l c) (end_sound last limits told c sound.legs l below) m below_too in
@@ -244,48 +245,53 @@ module _ (h : History) (last : ℕ) (limits : ChainLimits) (told : ChainTold) (c
 
 -- A leg reads.
 
-greatest_push : (rs : List LegReading) (r : LegReading) → greatest_timestamp (map (λ x. x.made) (rs ++ (r ∷ []))) ≡ max (greatest_timestamp (map (λ x. x.made) rs)) r.made.reading.timestamp
+greatest_push :
+    (rs : List LegReading) (r : LegReading) →
+    greatest_timestamp (map (λ x. x.made) (rs ++ (r ∷ []))) ≡ max (greatest_timestamp (map (λ x. x.made) rs)) r.made.reading.timestamp
 greatest_push rs r =
     ap greatest_timestamp (map_push (λ x. x.made) rs r) ∙ fold_push (λ a x. max a x.reading.timestamp) 0 (map (λ x. x.made) rs) r.made
 
-least_push : (rs : List LegReading) (r : LegReading) → least_promise (map (λ x. x.made) (rs ++ (r ∷ []))) ≡ min (least_promise (map (λ x. x.made) rs)) r.made.reading.promise
+least_push :
+    (rs : List LegReading) (r : LegReading) →
+    least_promise (map (λ x. x.made) (rs ++ (r ∷ []))) ≡ min (least_promise (map (λ x. x.made) rs)) r.made.reading.promise
 least_push rs r =
     ap least_promise (map_push (λ x. x.made) rs r) ∙ fold_push (λ a x. min a x.reading.promise) open_end (map (λ x. x.made) rs) r.made
 
 -- a further reading of the chain leaves its legs sound
-leg_more : (last : ℕ) (limits : ChainLimits) (rs : List LegReading) (r : LegReading) (written : ℕ → Option ℕ) (leg : OpenLeg) → LegSound last limits rs written leg → LegSound last limits (rs ++ (r ∷ [])) written leg
+leg_more :
+    (last : ℕ) (limits : ChainLimits) (rs : List LegReading) (r : LegReading) (written : ℕ → Option ℕ) (leg : OpenLeg) →
+    LegSound last limits rs written leg → LegSound last limits (rs ++ (r ∷ [])) written leg
 leg_more last limits rs r written leg s =
-    record {
-      worker = s.worker;
-      some = s.some;
-      to_open_end = s.to_open_end;
-      from_known = s.from_known;
-      low_read = omega (arith, greatest_push rs r, s.low_read);
-      high_read = omega (arith, least_push rs r, s.high_read);
-      rising = s.rising;
-      few_writes = s.few_writes;
-      as_told = s.as_told;
-    }
+    let before = s.times in
+    let times : TimesSound last (rs ++ (r ∷ [])) leg.interval = record {
+      some = before.some;
+      to_open_end = before.to_open_end;
+      from_known = before.from_known;
+      low_read = omega (arith, greatest_push rs r, before.low_read);
+      high_read = omega (arith, least_push rs r, before.high_read);
+    } in
+    record { worker = s.worker; times = times; writes = s.writes }
 
--- the leg that made it is narrowed by it
-leg_narrowed : (h : History) (last : ℕ) (limits : ChainLimits) (rs : List LegReading) (r : LegReading) (written : ℕ → Option ℕ) (leg : OpenLeg) → TrueReading h last r.made.key r.made.reading → meets_reading leg.interval r.made.reading ≡ true → LegSound last limits rs written leg → LegSound last limits (rs ++ (r ∷ [])) written (within (narrowed leg.interval r.made.reading) leg)
-leg_narrowed h last limits rs r written leg true_r meets s =
+-- the interval of the leg that made it is narrowed by it
+times_narrowed :
+    (h : History) (last : ℕ) (rs : List LegReading) (r : LegReading) (i : Interval) →
+    TrueReading h last r.made.key r.made.reading → meets_reading i r.made.reading ≡ true → TimesSound last rs i →
+    TimesSound last (rs ++ (r ∷ [])) (narrowed i r.made.reading)
+times_narrowed h last rs r i true_r meets before =
     let both = and_parts _ _ meets in
-    let from : leg.interval.low ≤ r.made.reading.promise = leb-true _ _ both.0 in
-    let to : r.made.reading.timestamp ≤ leg.interval.high = leb-true _ _ both.1 in
+    let from : i.low ≤ r.made.reading.promise = leb-true _ _ both.0 in
+    let to : r.made.reading.timestamp ≤ i.high = leb-true _ _ both.1 in
     record {
-      worker = s.worker;
-      some = omega (arith, s.some, true_r.reaches);
-      to_open_end = omega (arith, s.to_open_end);
-      from_known = omega (arith, s.from_known, true_r.reaches, true_r.known);
-      low_read = omega (arith, greatest_push rs r, s.low_read);
-      high_read = omega (arith, least_push rs r, s.high_read);
-      rising = s.rising;
-      few_writes = s.few_writes;
-      as_told = s.as_told;
+      some = omega (arith, before.some, true_r.reaches);
+      to_open_end = omega (arith, before.to_open_end);
+      from_known = omega (arith, before.from_known, true_r.reaches, true_r.known);
+      low_read = omega (arith, greatest_push rs r, before.low_read);
+      high_read = omega (arith, least_push rs r, before.high_read);
     }
 
-shown_more : (rs : List LegReading) (r : LegReading) (xs : List ValueRead) → AllByRecursion (Shown rs) xs → AllByRecursion (Shown (rs ++ (r ∷ []))) xs
+shown_more :
+    (rs : List LegReading) (r : LegReading) (xs : List ValueRead) → AllByRecursion (Shown rs) xs →
+    AllByRecursion (Shown (rs ++ (r ∷ []))) xs
 shown_more rs r xs =
     All-weaker (Shown rs) (Shown (rs ++ (r ∷ []))) (λ x s. record {
       reading = s.reading;
@@ -295,16 +301,16 @@ shown_more rs r xs =
     }) xs
 
 -- what is told of a read: where the leg has written the key nothing, else one more value that was answered
-shown_with : (P : ValueRead → Type 0) (written : Option ℕ) (x : ValueRead) (xs : List ValueRead) → (written ≡ None → P x) → AllByRecursion P xs → AllByRecursion P (outside_with written x xs)
+shown_with :
+    (P : ValueRead → Type 0) (written : Option ℕ) (x : ValueRead) (xs : List ValueRead) → (written ≡ None → P x) →
+    AllByRecursion P xs → AllByRecursion P (outside_with written x xs)
 shown_with P None x xs new old = (new refl, old)
 shown_with P (Some v) x xs new old = old
 
-abbrev value_read : ℕ → ℕ → ValueRead
-value_read k x = record { key = k; value = x }
-
 module _ (h : History) (last : ℕ) (limits : ChainLimits) (told : ChainTold) (c : Chain) (sound : ChainSound h last limits told c) (l k : ℕ) where
   -- a read that adds no reading
-  pub read_again : (x : ℕ) → (told.written l k ≡ None → Shown c.readings (value_read k x)) → ChainSound h last limits (leg_read l k x told) c
+  pub read_again :
+      (x : ℕ) → (told.written l k ≡ None → Shown c.readings (value_read k x)) → ChainSound h last limits (leg_read l k x told) c
   read_again x shown =
       record {
         legs = record { few_legs = sound.legs.few_legs; unopened = sound.legs.unopened; each = sound.legs.each };
@@ -334,7 +340,7 @@ module _ (h : History) (last : ℕ) (limits : ChainLimits) (told : ChainTold) (c
             few_legs = sound.legs.few_legs;
             unopened = λ j le. at_other l (running after) c.legs j (omega arith) ∙ sound.legs.unopened j le;
             each = at_each (λ j. IfRunning (LegSound last limits rs (told.written j))) l (running after) c.legs
-                (leg_narrowed h last limits c.readings noted (told.written l) leg true_r meets before)
+                (record { worker = before.worker; times = times_narrowed h last c.readings noted leg.interval true_r meets before.times; writes = before.writes })
                 (λ j. if_weaker (LegSound last limits c.readings (told.written j)) (LegSound last limits rs (told.written j)) (leg_more last limits c.readings noted (told.written j)) (c.legs j) (sound.legs.each j));
           };
           few_readings = omega (arith, length_push c.readings noted);
@@ -349,19 +355,13 @@ module _ (h : History) (last : ℕ) (limits : ChainLimits) (told : ChainTold) (c
 
 -- A chain is begun.
 
-pub begin_sound : (h : History) (last : ℕ) (limits : ChainLimits) (w : ℕ) → is_worker w ≡ true → ChainSound h last limits nothing_told (new_chain w)
+pub begin_sound :
+    (h : History) (last : ℕ) (limits : ChainLimits) (w : ℕ) → is_worker w ≡ true →
+    ChainSound h last limits nothing_told (new_chain w)
 begin_sound h last limits w worker =
-    let first : LegSound last limits [] (λ k. None) (record { worker = w; interval = from_to 0 open_end; writes = [] }) = record {
-      worker = worker;
-      some = omega arith;
-      to_open_end = omega arith;
-      from_known = omega arith;
-      low_read = omega arith;
-      high_read = omega arith;
-      rising = refl;
-      few_writes = omega arith;
-      as_told = λ k. refl;
-    } in
+    let all_times : TimesSound last [] (from_to 0 open_end) = record { some = omega arith; to_open_end = omega arith; from_known = omega arith; low_read = omega arith; high_read = omega arith } in
+    let no_writes : WritesSound limits (λ k. None) [] = record { rising = refl; few = omega arith; as_told = λ k. refl } in
+    let first : LegSound last limits [] (λ k. None) (record { worker = w; interval = from_to 0 open_end; writes = [] }) = record { worker = worker; times = all_times; writes = no_writes } in
     let none : LegsSound last limits nothing_told no_legs = record { few_legs = omega arith; unopened = λ l _. refl; each = λ l. tt } in
     let opened = open_sound last limits nothing_told no_legs none (record { worker = w; interval = from_to 0 open_end; writes = [] }) (λ k. None) (omega arith) first in
     record {
@@ -378,21 +378,25 @@ begin_sound h last limits w worker =
 
 -- The history goes on.
 
-leg_on : (last last' : ℕ) (limits : ChainLimits) (rs : List LegReading) (written : ℕ → Option ℕ) → last ≤ last' → (leg : OpenLeg) → LegSound last limits rs written leg → LegSound last' limits rs written leg
+-- last grows
+leg_on :
+    (last last' : ℕ) (limits : ChainLimits) (rs : List LegReading) (written : ℕ → Option ℕ) → last ≤ last' → (leg : OpenLeg) →
+    LegSound last limits rs written leg → LegSound last' limits rs written leg
 leg_on last last' limits rs written le leg s =
-    record {
-      worker = s.worker;
-      some = s.some;
-      to_open_end = s.to_open_end;
-      from_known = omega (arith, s.from_known);
-      low_read = s.low_read;
-      high_read = s.high_read;
-      rising = s.rising;
-      few_writes = s.few_writes;
-      as_told = s.as_told;
-    }
+    let before = s.times in
+    let times : TimesSound last' rs leg.interval = record {
+      some = before.some;
+      to_open_end = before.to_open_end;
+      from_known = omega (arith, before.from_known);
+      low_read = before.low_read;
+      high_read = before.high_read;
+    } in
+    record { worker = s.worker; times = times; writes = s.writes }
 
-pub chain_on : (h : History) (last : ℕ) (h' : History) (last' : ℕ) → GoesOn h last h' last' → (limits : ChainLimits) (told : ChainTold) (c : Chain) → ChainSound h last limits told c → ChainSound h' last' limits told c
+-- a sound chain stays so where the history goes on
+pub chain_on :
+    (h : History) (last : ℕ) (h' : History) (last' : ℕ) → GoesOn h last h' last' →
+    (limits : ChainLimits) (told : ChainTold) (c : Chain) → ChainSound h last limits told c → ChainSound h' last' limits told c
 chain_on h last h' last' on limits told c sound =
     record {
       legs = record {

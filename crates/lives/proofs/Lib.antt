@@ -4,6 +4,7 @@ pub mod CacheProofs
 pub mod CacheShapeProofs
 pub mod Readings
 pub mod Outcomes
+pub mod ShapedLives
 pub mod Sound
 pub mod Legs
 pub mod NoticeProofs

@@ -19,45 +19,52 @@ use Rattle.lives.specs.declared.calls.Call.TheVariants as call
 use Rattle.lives.specs.declared.limits.ChainLimits.{ChainLimits}
 use Rattle.lives.proofs.CacheProofs.{the_caches_lawful}
 use Rattle.lives.proofs.CallProofs.{After, begin_keeps, hand_keeps, fork_keeps, join_keeps, read_keeps, write_keeps, abandon_keeps, deliver_keeps, discard_keeps, prune_keeps}
-use Rattle.lives.proofs.CommitProofs.{IfAccepted, AccountStands, commit_keeps}
+use Rattle.lives.proofs.CommitProofs.{backed_on, IfAccepted, AccountStands, commit_keeps}
 use Rattle.lives.proofs.GoneProofs.{read_gone}
 use Rattle.lives.proofs.Legs.{leg_sound}
-use Rattle.lives.proofs.Readings.{History, GoesOn, same_goes_on, true_on}
+use Rattle.lives.proofs.Readings.{History, GoesOn, same_goes_on}
 use Rattle.lives.proofs.Sound.{ChainSound, Sound, Backed, Confirmed, LifeSound}
 use Rattle.lives.proofs.WriteSetProofs.{the_write_sets_lawful, the_limits_lawful}
 
 -- What is so of each event.
 
-at_each_weaker : (P Q : Event → Life → Type 0) → ((e : Event) (before : Life) → P e before → Q e before) → (life : Life) → AtEach P life → AtEach Q life
+at_each_weaker :
+    (P Q : Event → Life → Type 0) → ((e : Event) (before : Life) → P e before → Q e before) → (life : Life) → AtEach P life →
+    AtEach Q life
 at_each_weaker P Q on [] h = tt
 at_each_weaker P Q on (e ∷ before) h = (on e before h.0, at_each_weaker P Q on before h.1)
 
 -- an account stays confirmed where the history goes on
-confirmed_on : (h : History) (last : ℕ) (h' : History) (last' : ℕ) → GoesOn h last h' last' → (before : History) (told : ChainTold) (l : ℕ) (a : Account) → Confirmed h last before told l a → Confirmed h' last' before told l a
+confirmed_on :
+    (h : History) (last : ℕ) (h' : History) (last' : ℕ) → GoesOn h last h' last' → (before : History) (told : ChainTold) (l : ℕ) (a : Account) →
+    Confirmed h last before told l a → Confirmed h' last' before told l a
 confirmed_on h last h' last' on before told l a c =
     record {
       some = c.some;
-      backed = All-weaker (Backed h last a.low a.high) (Backed h' last' a.low a.high) (λ x b. record {
-        reading = b.reading;
-        is_true = true_on h last h' last' on x.key b.reading b.is_true;
-        same_value = b.same_value;
-        from_low = b.from_low;
-        to_high = b.to_high;
-      }) told.outside c.backed;
+      backed = All-weaker (Backed h last a.low a.high) (Backed h' last' a.low a.high) (backed_on h last h' last' on a.low a.high) told.outside c.backed;
       its_writes = c.its_writes;
       after_history = c.after_history;
       after_promises = c.after_promises;
       for_the_book = c.for_the_book;
     }
 
-if_accepted : {X : Type 0} (P : X → Engine → Type 0) (s : Engine) (o : Outcome X) (x : X) → Ok x ≡ answer_in o → IfAccepted P o → P x (engine_in s o)
+-- what is so of an accepted answer is so of the one that was given
+if_accepted :
+    {X : Type 0} (P : X → Engine → Type 0) (s : Engine) (o : Outcome X) (x : X) → Ok x ≡ answer_in o → IfAccepted P o →
+    P x (engine_in s o)
 if_accepted P s (refused f) x e h = absurd (grind arith)
 if_accepted P s (accepted y s') x e h = let same : x ≡ y = cc in subst (λ z. P z s') (sym same) h
 
 -- The history goes on with every call: only a commit adds to it.
 
 module _ (h : History) (m : Meaning) (depth : ℕ) where
-  on_by : (c : Call) (x : AnswerTo c) → ((p l clock r w : ℕ) (a : Account) → event c (Ok x) ≡ event (call.Commit p l clock r w) (Ok a) → GoesOn h m.last (history_by (call.Commit p l clock r w) a h) (store_by depth (call.Commit p l clock r w) a m).last) → GoesOn h m.last (history_by c x h) (store_by depth c x m).last
+  -- if an event is an accepted commit, the history goes on with what it adds
+  abbrev OnCommit : Event → Type 0
+  OnCommit e =
+      (p l clock r w : ℕ) (a : Account) → e ≡ event (call.Commit p l clock r w) (Ok a) →
+      GoesOn h m.last (history_by (call.Commit p l clock r w) a h) (store_by depth (call.Commit p l clock r w) a m).last
+
+  on_by : (c : Call) (x : AnswerTo c) → OnCommit (event c (Ok x)) → GoesOn h m.last (history_by c x h) (store_by depth c x m).last
   on_by (call.Begin p w) x on = same_goes_on h m.last
   on_by (call.Hand p l w) x on = same_goes_on h m.last
   on_by (call.Fork p l w v) x on = same_goes_on h m.last
@@ -71,163 +78,193 @@ module _ (h : History) (m : Meaning) (depth : ℕ) where
   on_by call.Count x on = same_goes_on h m.last
   on_by (call.Prune n) x on = same_goes_on h m.last
 
-  on_with : (c : Call) (answer : Result (AnswerTo c) EngineFault) → ((p l clock r w : ℕ) (a : Account) → event c answer ≡ event (call.Commit p l clock r w) (Ok a) → GoesOn h m.last (history_by (call.Commit p l clock r w) a h) (store_by depth (call.Commit p l clock r w) a m).last) → GoesOn h m.last (history_with c answer h) (store_with depth c answer m).last
+  on_with :
+      (c : Call) (answer : Result (AnswerTo c) EngineFault) → OnCommit (event c answer) →
+      GoesOn h m.last (history_with c answer h) (store_with depth c answer m).last
   on_with c (Ok x) on = on_by c x on
   on_with c (Err f) on = same_goes_on h m.last
 
 -- Every call keeps the invariant.
 
 module _ (parts : LawfulParts) (store : NewStore) where
-    abbrev rules : Rules
-    rules = rules_of parts
+  abbrev rules : Rules
+  rules = rules_of parts
 
-    abbrev limits : ChainLimits
-    limits = parts.limits
+  abbrev limits : ChainLimits
+  limits = parts.limits
 
-    abbrev depth : ℕ
-    depth = store.depth
+  abbrev depth : ℕ
+  depth = store.depth
 
-    call_keeps : (h : History) (told : ℕ → ChainTold) (m : Meaning) (s : Engine) → Sound store limits h told m s → (c : Call) → After limits store h told m s c (step rules depth c s)
-    call_keeps h told m s sound (call.Begin p w) = begin_keeps parts store h told m s sound p w
-    call_keeps h told m s sound (call.Hand p l w) = hand_keeps parts store h told m s sound p l w
-    call_keeps h told m s sound (call.Fork p l w v) = fork_keeps parts store h told m s sound p l w v
-    call_keeps h told m s sound (call.Join p l j w) = join_keeps parts store h told m s sound p l j w
-    call_keeps h told m s sound (call.Read p l k) = read_keeps parts store h told m s sound p l k
-    call_keeps h told m s sound (call.Write p l k x) = write_keeps parts store h told m s sound p l k x
-    call_keeps h told m s sound (call.Commit p l clock r w) = (commit_keeps parts store h told m s sound p l clock r w).0
-    call_keeps h told m s sound (call.Abandon p) = abandon_keeps parts store h told m s sound p
-    call_keeps h told m s sound (call.Deliver i) = deliver_keeps parts store h told m s sound i
-    call_keeps h told m s sound (call.Discard i) = discard_keeps parts store h told m s sound i
-    call_keeps h told m s sound call.Count = sound
-    call_keeps h told m s sound (call.Prune n) = prune_keeps parts store h told m s sound n
+  -- by each call's own lemma
+  call_keeps :
+      (h : History) (told : ℕ → ChainTold) (m : Meaning) (s : Engine) → Sound store limits h told m s → (c : Call) →
+      After limits store h told m s c (step rules depth c s)
+  call_keeps h told m s sound (call.Begin p w) = begin_keeps parts store h told m s sound p w
+  call_keeps h told m s sound (call.Hand p l w) = hand_keeps parts store h told m s sound p l w
+  call_keeps h told m s sound (call.Fork p l w v) = fork_keeps parts store h told m s sound p l w v
+  call_keeps h told m s sound (call.Join p l j w) = join_keeps parts store h told m s sound p l j w
+  call_keeps h told m s sound (call.Read p l k) = read_keeps parts store h told m s sound p l k
+  call_keeps h told m s sound (call.Write p l k x) = write_keeps parts store h told m s sound p l k x
+  call_keeps h told m s sound (call.Commit p l clock r w) = (commit_keeps parts store h told m s sound p l clock r w).0
+  call_keeps h told m s sound (call.Abandon p) = abandon_keeps parts store h told m s sound p
+  call_keeps h told m s sound (call.Deliver i) = deliver_keeps parts store h told m s sound i
+  call_keeps h told m s sound (call.Discard i) = discard_keeps parts store h told m s sound i
+  call_keeps h told m s sound call.Count = sound
+  call_keeps h told m s sound (call.Prune n) = prune_keeps parts store h told m s sound n
 
-    abbrev last_after : Life → ℕ
-    last_after life = (engine_after rules store life).store.last
+  abbrev last_after : Life → ℕ
+  last_after life = (engine_after rules store life).store.last
 
-    module _ (life : Life) (before : LifeSound rules limits store life) (e : Event) (drawn : e.answer ≡ answer_in (step rules depth e.called (engine_after rules store life))) where
-      abbrev s : Engine
-      s = engine_after rules store life
+  module _ (life : Life) (before : LifeSound rules limits store life) (e : Event) (drawn : e.answer ≡ answer_in (step rules depth e.called (engine_after rules store life))) where
+    abbrev s : Engine
+    s = engine_after rules store life
 
-      engine_on : Sound store limits (history_of (e ∷ life)) (told_of (e ∷ life)) (store_after store (e ∷ life)) (engine_after rules store (e ∷ life))
-      engine_on =
-          let P : Result (AnswerTo e.called) EngineFault → Type 0 = λ answer. Sound store limits (history_with e.called answer (history_of life)) (told_with e.called answer (told_of life)) (store_with depth e.called answer (store_after store life)) (engine_after rules store (e ∷ life)) in
-          subst P (sym drawn) (call_keeps (history_of life) (told_of life) (store_after store life) s before.engine e.called)
+    -- the engine is sound after the event
+    engine_on : Sound store limits (history_of (e ∷ life)) (told_of (e ∷ life)) (store_after store (e ∷ life)) (engine_after rules store (e ∷ life))
+    engine_on =
+        let P : Result (AnswerTo e.called) EngineFault → Type 0 = λ answer.
+        Sound store limits (history_with e.called answer (history_of life)) (told_with e.called answer (told_of life))
+        (store_with depth e.called answer (store_after store life)) (engine_after rules store (e ∷ life)) in
+        subst P (sym drawn) (call_keeps (history_of life) (told_of life) (store_after store life) s before.engine e.called)
 
-      abbrev h : History
-      h = history_of life
+    abbrev h : History
+    h = history_of life
 
-      abbrev m : Meaning
-      m = store_after store life
+    abbrev m : Meaning
+    m = store_after store life
 
-      -- a commit's account is confirmed when it is committed
-      account_new : (p l clock r w : ℕ) (a : Account) → e ≡ event (call.Commit p l clock r w) (Ok a) → AccountStands parts store h (told_of life) m s before.engine p l a (engine_after rules store (e ∷ life))
-      account_new p l clock r w a is =
-          let StandsAt : Engine → Type 0 = AccountStands parts store h (told_of life) m s before.engine p l a in
-          let Q : Event → Type 0 = λ x. x.answer ≡ answer_in (step rules depth x.called s) → StandsAt (engine_in s (step rules depth x.called s)) in
-          let kept = commit_keeps parts store h (told_of life) m s before.engine p l clock r w in
-          subst Q (sym is) (λ d. if_accepted (AccountStands parts store h (told_of life) m s before.engine p l) s (step rules depth (call.Commit p l clock r w) s) a d kept.1) drawn
+    -- a commit's account is confirmed when it is committed
+    account_new :
+        (p l clock r w : ℕ) (a : Account) → e ≡ event (call.Commit p l clock r w) (Ok a) →
+        AccountStands parts store h (told_of life) m s before.engine p l a (engine_after rules store (e ∷ life))
+    account_new p l clock r w a is =
+        let StandsAt : Engine → Type 0 = AccountStands parts store h (told_of life) m s before.engine p l a in
+        let Q : Event → Type 0 = λ x. x.answer ≡ answer_in (step rules depth x.called s) → StandsAt (engine_in s (step rules depth x.called s)) in
+        let kept = commit_keeps parts store h (told_of life) m s before.engine p l clock r w in
+        subst Q (sym is) (λ d. if_accepted (AccountStands parts store h (told_of life) m s before.engine p l) s (step rules depth (call.Commit p l clock r w) s) a d kept.1) drawn
 
-      confirmed_new : (p l clock r w : ℕ) (a : Account) → e ≡ event (call.Commit p l clock r w) (Ok a) → Confirmed (history_of (e ∷ life)) (last_after (e ∷ life)) h (told_of life p) l a
-      confirmed_new p l clock r w a is =
-          let Q : Event → Type 0 = λ x. Confirmed (history_with x.called x.answer h) (last_after (e ∷ life)) h (told_of life p) l a in
-          subst Q (sym is) (account_new p l clock r w a is).0
+    confirmed_new :
+        (p l clock r w : ℕ) (a : Account) → e ≡ event (call.Commit p l clock r w) (Ok a) →
+        Confirmed (history_of (e ∷ life)) (last_after (e ∷ life)) h (told_of life p) l a
+    confirmed_new p l clock r w a is =
+        let Q : Event → Type 0 = λ x. Confirmed (history_with x.called x.answer h) (last_after (e ∷ life)) h (told_of life p) l a in
+        subst Q (sym is) (account_new p l clock r w a is).0
 
-      history_on : GoesOn h (last_after life) (history_of (e ∷ life)) (last_after (e ∷ life))
-      history_on =
-          let last_now : last_after life ≡ m.last = ap (λ n. n.last) before.engine.same_store in
-          let last_then : last_after (e ∷ life) ≡ (store_with depth e.called e.answer m).last = ap (λ n. n.last) engine_on.same_store in
-          let on_commit : (p l clock r w : ℕ) (a : Account) → e ≡ event (call.Commit p l clock r w) (Ok a) → GoesOn h m.last (history_by (call.Commit p l clock r w) a h) (store_by depth (call.Commit p l clock r w) a m).last = λ p l clock r w a is.
-          let Q : ℕ → ℕ → Type 0 = λ x y. GoesOn h x (history_by (call.Commit p l clock r w) a h) y in
-          let last_of : last_after (e ∷ life) ≡ (store_by depth (call.Commit p l clock r w) a m).last = last_then ∙ ap (λ x. (store_with depth x.called x.answer m).last) is in
-          subst₂ Q last_now last_of (account_new p l clock r w a is).1 in
-          let R : ℕ → ℕ → Type 0 = λ x y. GoesOn h x (history_of (e ∷ life)) y in
-          subst₂ R (sym last_now) (sym last_then) (on_with h m depth e.called e.answer on_commit)
+    -- the history goes on with the event
+    history_on : GoesOn h (last_after life) (history_of (e ∷ life)) (last_after (e ∷ life))
+    history_on =
+        let last_now : last_after life ≡ m.last = ap (λ n. n.last) before.engine.same_store in
+        let last_then : last_after (e ∷ life) ≡ (store_with depth e.called e.answer m).last = ap (λ n. n.last) engine_on.same_store in
+        let on_commit : OnCommit h m depth e = λ p l clock r w a is.
+        let Q : ℕ → ℕ → Type 0 = λ x y. GoesOn h x (history_by (call.Commit p l clock r w) a h) y in
+        let last_of : last_after (e ∷ life) ≡ (store_by depth (call.Commit p l clock r w) a m).last = last_then ∙ ap (λ x. (store_with depth x.called x.answer m).last) is in
+        subst₂ Q last_now last_of (account_new p l clock r w a is).1 in
+        let R : ℕ → ℕ → Type 0 = λ x y. GoesOn h x (history_of (e ∷ life)) y in
+        subst₂ R (sym last_now) (sym last_then) (on_with h m depth e.called e.answer on_commit)
 
-      gone_new : (p l k : ℕ) (f : EngineFault) → e ≡ event (call.Read p l k) (Err f) → f.fault.refusal ≡ VersionGone → GoneLaw h m.kept (leg_at s p l) k
-      gone_new p l k f is gone =
-          let Q : Event → Type 0 = λ x. x.answer ≡ answer_in (step rules depth x.called s) in
-          read_gone parts store h (told_of life) m s before.engine p l k f (subst Q is drawn) gone
+    -- a read that is refused as gone keeps its law
+    gone_new :
+        (p l k : ℕ) (f : EngineFault) → e ≡ event (call.Read p l k) (Err f) → f.fault.refusal ≡ VersionGone →
+        GoneLaw h m.kept (leg_at s p l) k
+    gone_new p l k f is gone =
+        let Q : Event → Type 0 = λ x. x.answer ≡ answer_in (step rules depth x.called s) in
+        read_gone parts store h (told_of life) m s before.engine p l k f (subst Q is drawn) gone
 
-      life_on : LifeSound rules limits store (e ∷ life)
-      life_on =
-          record {
-            drawn = (drawn, before.drawn);
-            engine = engine_on;
-            accounts = (
-              confirmed_new,
-              at_each_weaker _ _ (λ e' earlier confirmed p l clock r w a is. confirmed_on h (last_after life) (history_of (e ∷ life)) (last_after (e ∷ life)) history_on (history_of earlier) (told_of earlier p) l a (confirmed p l clock r w a is)) life before.accounts,
-            );
-            gone = (gone_new, before.gone);
-          }
-
-    -- a new engine over the new store
-    life_new : LifeSound rules limits store []
-    life_new =
+    -- so the invariant is kept
+    life_on : LifeSound rules limits store (e ∷ life)
+    life_on =
         record {
-          drawn = tt;
-          engine = record {
-            same_store = refl;
-            stands = new_stands depth store.capacity store.not_none store.room;
-            before_end = omega arith;
-            caches = λ w. tt;
-            notices = tt;
-            chains = λ p. tt;
-          };
-          accounts = tt;
-          gone = tt;
+          drawn = (drawn, before.drawn);
+          engine = engine_on;
+          accounts = (
+            confirmed_new,
+            at_each_weaker _ _
+                (λ e' earlier confirmed p l clock r w a is.
+                confirmed_on h (last_after life) (history_of (e ∷ life)) (last_after (e ∷ life)) history_on (history_of earlier) (told_of earlier p) l a (confirmed p l clock r w a is))
+                life before.accounts,
+          );
+          gone = (gone_new, before.gone);
         }
 
-    -- any life that is as drawn
-    drawn_sound : (life : Life) → AsDrawn rules store life → LifeSound rules limits store life
-    drawn_sound [] drawn = life_new
-    drawn_sound (e ∷ before) drawn = life_on before (drawn_sound before drawn.1) e drawn.0
+  -- a new engine over the new store
+  life_new : LifeSound rules limits store []
+  life_new =
+      record {
+        drawn = tt;
+        engine = record {
+          same_store = refl;
+          stands = new_stands depth store.capacity store.not_none store.room;
+          before_end = omega arith;
+          caches = λ w. tt;
+          notices = tt;
+          chains = λ p. tt;
+        };
+        accounts = tt;
+        gone = tt;
+      }
 
-    -- The law.
+  -- any life that is as drawn
+  drawn_sound : (life : Life) → AsDrawn rules store life → LifeSound rules limits store life
+  drawn_sound [] drawn = life_new
+  drawn_sound (e ∷ before) drawn = life_on before (drawn_sound before drawn.1) e drawn.0
 
-    -- at every time of the account's interval the history holds what was read
-    values_held : (h : History) (last : ℕ) (before : History) (told : ChainTold) (l : ℕ) (a : Account) → Confirmed h last before told l a → (u : ℕ) → a.low ≤ u → u ≤ a.high → AllByRecursion (λ r. ValueAt u r.value (h r.key)) told.outside
-    values_held h last before told l a c u from to =
-        All-weaker (Backed h last a.low a.high) (λ r. ValueAt u r.value (h r.key))
-        (λ r b. (version_in b.reading, b.is_true.current u (omega (arith, b.from_low)) (omega (arith, b.to_high)), b.same_value))
-        told.outside c.backed
+  -- The law.
 
-    account_law : (h : History) (last : ℕ) (before : Life) (p l : ℕ) (a : Account) → Confirmed h last (history_of before) (told_of before p) l a → AccountLaw h before p l a
-    account_law h last before p l a c =
-        record {
-          some = c.some;
-          agrees = λ u lies. values_held h last (history_of before) (told_of before p) l a c u lies.0 lies.1;
-          its_writes = c.its_writes;
-          after_history = c.after_history;
-          after_promises = c.after_promises;
-          for_the_book = c.for_the_book;
-        }
+  -- at every time of the account's interval the history holds what was read
+  values_held :
+      (h : History) (last : ℕ) (before : History) (told : ChainTold) (l : ℕ) (a : Account) → Confirmed h last before told l a →
+      (u : ℕ) → a.low ≤ u → u ≤ a.high → AllByRecursion (λ r. ValueAt u r.value (h r.key)) told.outside
+  values_held h last before told l a c u from to =
+      All-weaker (Backed h last a.low a.high) (λ r. ValueAt u r.value (h r.key))
+      (λ r b. (version_in b.reading, b.is_true.current u (omega (arith, b.from_low)) (omega (arith, b.to_high)), b.same_value))
+      told.outside c.backed
 
-    -- no open leg has an empty interval
-    leg_some : (h : History) (last : ℕ) (told : ChainTold) (c : Option Chain) (l : ℕ) (leg : OpenLeg) → IfSome c (ChainSound h last limits told) → leg_in c l ≡ running leg → leg.interval.low ≤ leg.interval.high
-    leg_some h last told None l leg sound e = absurd (grind arith)
-    leg_some h last told (Some c) l leg sound e = (leg_sound last limits told c sound.legs l leg e).some
+  account_law :
+      (h : History) (last : ℕ) (before : Life) (p l : ℕ) (a : Account) →
+      Confirmed h last (history_of before) (told_of before p) l a → AccountLaw h before p l a
+  account_law h last before p l a c =
+      record {
+        some = c.some;
+        agrees = λ u lies. values_held h last (history_of before) (told_of before p) l a c u lies.0 lies.1;
+        its_writes = c.its_writes;
+        after_history = c.after_history;
+        after_promises = c.after_promises;
+        for_the_book = c.for_the_book;
+      }
 
-    law_from_sound : (life : Life) → LifeSound rules limits store life → LawOfLives rules store life
-    law_from_sound life sound =
-        record {
-          as_drawn = sound.drawn;
-          commits = at_each_weaker _ _ (λ e before confirmed p l clock r w a is. account_law (history_of life) (last_after life) before p l a (confirmed p l clock r w a is)) life sound.accounts;
-          reads = sound.gone;
-          intervals = λ p l leg e. leg_some (history_of life) (last_after life) (told_of life p) ((engine_after rules store life).places p) l leg (sound.engine.chains p) e;
-        }
+  -- no open leg has an empty interval
+  leg_some :
+      (h : History) (last : ℕ) (told : ChainTold) (c : Option Chain) (l : ℕ) (leg : OpenLeg) →
+      IfSome c (ChainSound h last limits told) → leg_in c l ≡ running leg → leg.interval.low ≤ leg.interval.high
+  leg_some h last told None l leg sound e = absurd (grind arith)
+  leg_some h last told (Some c) l leg sound e = (leg_sound last limits told c sound.legs l leg e).times.some
 
-    -- a life by its calls is as drawn
-    calls_drawn : (before : Life) (calls : List Call) → AsDrawn rules store before → AsDrawn rules store (life_from rules store (engine_after rules store before) before calls)
-    calls_drawn before [] drawn = drawn
-    calls_drawn before (c ∷ cs) drawn = calls_drawn (event c (answer_in (step rules depth c (engine_after rules store before))) ∷ before) cs (refl, drawn)
+  law_from_sound : (life : Life) → LifeSound rules limits store life → LawOfLives rules store life
+  law_from_sound life sound =
+      record {
+        as_drawn = sound.drawn;
+        commits = at_each_weaker _ _ (λ e before confirmed p l clock r w a is. account_law (history_of life) (last_after life) before p l a (confirmed p l clock r w a is)) life sound.accounts;
+        reads = sound.gone;
+        intervals = λ p l leg e. leg_some (history_of life) (last_after life) (told_of life p) ((engine_after rules store life).places p) l leg (sound.engine.chains p) e;
+      }
 
-    one_more : (life : Life) (s : Engine) (c : Call) → LedTo rules store life s → LawOfLives rules store (event c (answer_in (step rules depth c s)) ∷ life)
-    one_more life s c led =
-        let P : Engine → Type 0 = λ x. LawOfLives rules store (event c (answer_in (step rules depth c x)) ∷ life) in
-        subst P led.leaves (law_from_sound _ (drawn_sound _ (refl, led.as_drawn)))
+  -- a life by its calls is as drawn
+  calls_drawn :
+      (before : Life) (calls : List Call) → AsDrawn rules store before →
+      AsDrawn rules store (life_from rules store (engine_after rules store before) before calls)
+  calls_drawn before [] drawn = drawn
+  calls_drawn before (c ∷ cs) drawn = calls_drawn (event c (answer_in (step rules depth c (engine_after rules store before))) ∷ before) cs (refl, drawn)
 
-    calls_lawful : (calls : List Call) → LawOfLives rules store (life_of rules store calls)
-    calls_lawful calls = law_from_sound _ (drawn_sound _ (calls_drawn [] calls tt))
+  one_more :
+      (life : Life) (s : Engine) (c : Call) → LedTo rules store life s →
+      LawOfLives rules store (event c (answer_in (step rules depth c s)) ∷ life)
+  one_more life s c led =
+      let P : Engine → Type 0 = λ x. LawOfLives rules store (event c (answer_in (step rules depth c x)) ∷ life) in
+      subst P led.leaves (law_from_sound _ (drawn_sound _ (refl, led.as_drawn)))
+
+  calls_lawful : (calls : List Call) → LawOfLives rules store (life_of rules store calls)
+  calls_lawful calls = law_from_sound _ (drawn_sound _ (calls_drawn [] calls tt))
 
 -- The law rests on the laws of its parts, and those that hold keep them.
 

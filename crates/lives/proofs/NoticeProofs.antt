@@ -15,20 +15,25 @@ use Rattle.lives.specs.Notices.{notice_of, raise, raise_below, raise_all}
 use Rattle.lives.specs.declared.records.Notice.{Notice}
 
 module _ (P : Notice → Type 0) where
-  raise_all_wait : (n : Notice) (ns : Notices) → P n → AllByRecursion P ns.waiting → AllByRecursion P (raise n ns).waiting
-  raise_all_wait n ns here all =
+  raised_waits : (n : Notice) (ns : Notices) → P n → AllByRecursion P ns.waiting → AllByRecursion P (raise n ns).waiting
+  raised_waits n ns here all =
       cond_both (nat_lt (length ns.waiting) waiting_notices) _ _ (λ (after : Notices). AllByRecursion P after.waiting) (λ _. All-push P ns.waiting n all here) (λ _. all)
 
-  below_wait : (holder : ℕ → Bool) (t : ℕ) (w : Write) (n : ℕ) (ns : Notices) → ((worker : ℕ) → P (notice_of t w worker)) → AllByRecursion P ns.waiting → AllByRecursion P (raise_below holder t w n ns).waiting
-  below_wait holder t w zero ns each all = all
-  below_wait holder t w (suc n) ns each all =
-      let before = below_wait holder t w n ns each all in
-      cond_both (holder n) _ _ (λ (after : Notices). AllByRecursion P after.waiting) (λ _. raise_all_wait (notice_of t w n) (raise_below holder t w n ns) (each n) before) (λ _. before)
+  all_below_wait :
+      (holder : ℕ → Bool) (t : ℕ) (w : Write) (n : ℕ) (ns : Notices) → ((worker : ℕ) → P (notice_of t w worker)) →
+      AllByRecursion P ns.waiting → AllByRecursion P (raise_below holder t w n ns).waiting
+  all_below_wait holder t w zero ns each all = all
+  all_below_wait holder t w (suc n) ns each all =
+      let before = all_below_wait holder t w n ns each all in
+      cond_both (holder n) _ _ (λ (after : Notices). AllByRecursion P after.waiting) (λ _. raised_waits (notice_of t w n) (raise_below holder t w n ns) (each n) before) (λ _. before)
 
-  pub raised_wait : (holds_key : ℕ → Cache → Bool) (caches : ℕ → Cache) (t : ℕ) (ws : List Write) (ns : Notices) → AllByRecursion (λ w. (worker : ℕ) → P (notice_of t w worker)) ws → AllByRecursion P ns.waiting → AllByRecursion P (raise_all holds_key caches t ws ns).waiting
-  raised_wait holds_key caches t [] ns each all = all
-  raised_wait holds_key caches t (w ∷ ws) ns each all =
-      raised_wait holds_key caches t ws _ each.1 (below_wait (λ n. holds_key w.key (caches n)) t w workers ns each.0 all)
+  pub all_raised_wait :
+      (holds_key : ℕ → Cache → Bool) (caches : ℕ → Cache) (t : ℕ) (ws : List Write) (ns : Notices) →
+      AllByRecursion (λ w. (worker : ℕ) → P (notice_of t w worker)) ws → AllByRecursion P ns.waiting →
+      AllByRecursion P (raise_all holds_key caches t ws ns).waiting
+  all_raised_wait holds_key caches t [] ns each all = all
+  all_raised_wait holds_key caches t (w ∷ ws) ns each all =
+      all_raised_wait holds_key caches t ws _ each.1 (all_below_wait (λ n. holds_key w.key (caches n)) t w workers ns each.0 all)
 
 -- a notice at a position is one of those that wait, and the others stay when it goes
 pub at_position : {X : Type 0} (P : X → Type 0) (xs : List X) (i : ℕ) (x : X) → slice_get xs i ≡ Some x → AllByRecursion P xs → P x
@@ -41,7 +46,9 @@ all_removed P xs i all = All-append P (take i xs) (drop (suc i) xs) (All-take P 
 
 -- Each write of a write set is the one that its key has.
 
-written_from : (least : ℕ) (ws : List Write) (f : ℕ → Option ℕ) → ((k : ℕ) → least ≤ k → f k ≡ written_to k ws) → rising_from least ws ≡ true → AllByRecursion (λ w. (is_key w.key ≡ true) × (f w.key ≡ Some w.value)) ws
+written_from :
+    (least : ℕ) (ws : List Write) (f : ℕ → Option ℕ) → ((k : ℕ) → least ≤ k → f k ≡ written_to k ws) →
+    rising_from least ws ≡ true → AllByRecursion (λ w. (is_key w.key ≡ true) × (f w.key ≡ Some w.value)) ws
 written_from least [] f alike e = tt
 written_from least (w ∷ ws) f alike e =
     let here : least ≤ w.key = grind (arith, nat_tests) in
@@ -49,5 +56,7 @@ written_from least (w ∷ ws) f alike e =
     let behind : (k : ℕ) → suc w.key ≤ k → f k ≡ written_to k ws = λ k le. alike k (omega arith) ∙ cond-false (w.key == k) _ _ (ne_eqb w.key k (omega arith)) in
     ((grind (arith, nat_tests), found), written_from (suc w.key) ws f behind (rising_later least w ws e))
 
-pub written_each : (ws : List Write) → rising_from 0 ws ≡ true → AllByRecursion (λ w. (is_key w.key ≡ true) × (written_to w.key ws ≡ Some w.value)) ws
+pub written_each :
+    (ws : List Write) → rising_from 0 ws ≡ true →
+    AllByRecursion (λ w. (is_key w.key ≡ true) × (written_to w.key ws ≡ Some w.value)) ws
 written_each ws e = written_from 0 ws (λ k. written_to k ws) (λ k _. refl) e

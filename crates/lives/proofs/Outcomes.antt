@@ -11,12 +11,16 @@ module _ {X : Type 0} (P : Outcome X → Type 0) where
   unfolding check
   at_check ok f next out on = cond_both ok next (refused f) P on (λ _. out)
 
-  pub at_chain : (c : Option Chain) (f : EngineFault) (next : Chain → Outcome X) → P (refused f) → ((chain : Chain) → c ≡ Some chain → P (next chain)) → P (with_chain c f next)
+  pub at_chain :
+      (c : Option Chain) (f : EngineFault) (next : Chain → Outcome X) → P (refused f) →
+      ((chain : Chain) → c ≡ Some chain → P (next chain)) → P (with_chain c f next)
   unfolding with_chain
   at_chain None f next out on = out
   at_chain (Some chain) f next out on = on chain refl
 
-  pub at_open : (state : LegState) (f : EngineFault) (next : OpenLeg → Outcome X) → P (refused f) → ((leg : OpenLeg) → state ≡ running leg → P (next leg)) → P (with_open state f next)
+  pub at_open :
+      (state : LegState) (f : EngineFault) (next : OpenLeg → Outcome X) → P (refused f) →
+      ((leg : OpenLeg) → state ≡ running leg → P (next leg)) → P (with_open state f next)
   unfolding with_open
   at_open unused f next out on = out
   at_open (running leg) f next out on = on leg refl
@@ -34,12 +38,16 @@ module _ {X : Type 0} (P : Outcome X → Type 0) where
   at_free None f next out on = on refl
   at_free (Some chain) f next out on = out
 
-  pub at_result : {Y E : Type 0} (r : Result Y E) (f : E → EngineFault) (next : Y → Outcome X) → ((e : E) → r ≡ Err e → P (refused (f e))) → ((y : Y) → r ≡ Ok y → P (next y)) → P (with_result r f next)
+  pub at_result :
+      {Y E : Type 0} (r : Result Y E) (f : E → EngineFault) (next : Y → Outcome X) → ((e : E) → r ≡ Err e → P (refused (f e))) →
+      ((y : Y) → r ≡ Ok y → P (next y)) → P (with_result r f next)
   unfolding with_result
   at_result (Ok y) f next out on = on y refl
   at_result (Err e) f next out on = out e refl
 
-  pub at_else : {Y : Type 0} (o : Option Y) (found : Y → Outcome X) (next : Outcome X) → ((y : Y) → o ≡ Some y → P (found y)) → (o ≡ None → P next) → P (or_else o found next)
+  pub at_else :
+      {Y : Type 0} (o : Option Y) (found : Y → Outcome X) (next : Outcome X) → ((y : Y) → o ≡ Some y → P (found y)) →
+      (o ≡ None → P next) → P (or_else o found next)
   unfolding or_else
   at_else None found next on out = out refl
   at_else (Some y) found next on out = on y refl

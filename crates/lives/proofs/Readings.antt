@@ -22,12 +22,15 @@ History = ℕ → List Version
 
 -- What is true.
 
--- a reading of a key is true: the history holds its version at every time from its timestamp to its promise, which is not
--- above last
+-- a reading of a key is true
 pub record TrueReading (h : History) (last k : ℕ) (r : Reading) : Type 0 where
+  -- the key is one
   pub of_key : is_key k ≡ true
+  -- the promise is not before the timestamp
   pub reaches : r.timestamp ≤ r.promise
+  -- nor above last
   pub known : r.promise ≤ last
+  -- the history holds its version at every time from its timestamp to its promise
   pub current : (u : ℕ) → r.timestamp ≤ u → u ≤ r.promise → HoldsAt u (version_in r) (h k)
 
 -- every entry of a cache is true
@@ -44,7 +47,9 @@ pub record GoesOn (h : History) (last : ℕ) (h' : History) (last' : ℕ) : Type
 pub same_goes_on : (h : History) (last : ℕ) → GoesOn h last h last
 same_goes_on h last = record { later = omega arith; keeps = λ k u v le held. held }
 
-pub true_on : (h : History) (last : ℕ) (h' : History) (last' : ℕ) → GoesOn h last h' last' → (k : ℕ) (r : Reading) → TrueReading h last k r → TrueReading h' last' k r
+pub true_on :
+    (h : History) (last : ℕ) (h' : History) (last' : ℕ) → GoesOn h last h' last' → (k : ℕ) (r : Reading) →
+    TrueReading h last k r → TrueReading h' last' k r
 true_on h last h' last' on k r t =
     record {
       of_key = t.of_key;
@@ -62,12 +67,15 @@ holds_before u v w vs lt h =
       newest_one = All-append (λ x. x.timestamp ≤ u → x.timestamp ≤ v.timestamp) vs (w ∷ []) h.newest_one (λ le. absurd (omega arith), tt);
     }
 
-given_before : (u t : ℕ) (v : Version) (written : Option ℕ) (vs : List Version) → u < t → HoldsAt u v vs → HoldsAt u v (vs ++ versions_of (Some t) written)
+given_before :
+    (u t : ℕ) (v : Version) (written : Option ℕ) (vs : List Version) → u < t → HoldsAt u v vs →
+    HoldsAt u v (vs ++ versions_of (Some t) written)
 given_before u t v None vs lt h = rw append-nil h
 given_before u t v (Some x) vs lt h = holds_before u v (version_of t x) vs lt h
 
 -- a commit after last lets the history go on
-pub commit_goes_on : (h : History) (last t : ℕ) (ws : List Write) → last < t → GoesOn h last (λ k. h k ++ versions_of (Some t) (written_to k ws)) t
+pub commit_goes_on :
+    (h : History) (last t : ℕ) (ws : List Write) → last < t → GoesOn h last (λ k. h k ++ versions_of (Some t) (written_to k ws)) t
 commit_goes_on h last t ws lt =
     record { later = omega arith; keeps = λ k u v le held. given_before u t v (written_to k ws) (h k) (omega arith) held }
 
@@ -84,13 +92,17 @@ newest_held last t x vs lt up =
 abbrev pub committed_reading : ℕ → ℕ → Reading
 committed_reading t x = record { value = x; timestamp = t; promise = t }
 
-given_true : (h : History) (last t x k : ℕ) (written : Option ℕ) → is_key k ≡ true → last < t → UpTo last (h k) → written ≡ Some x → HoldsAt t (version_of t x) (h k ++ versions_of (Some t) written)
+given_true :
+    (h : History) (last t x k : ℕ) (written : Option ℕ) → is_key k ≡ true → last < t → UpTo last (h k) → written ≡ Some x →
+    HoldsAt t (version_of t x) (h k ++ versions_of (Some t) written)
 given_true h last t x k written key lt up e =
     let P : Option ℕ → Type 0 = λ o. HoldsAt t (version_of t x) (h k ++ versions_of (Some t) o) in
     subst P (sym e) (newest_held last t x (h k) lt up)
 
 -- the reading of what a commit wrote to a key is true of the history after it
-pub commit_true : (h : History) (last t x k : ℕ) (ws : List Write) → is_key k ≡ true → last < t → UpTo last (h k) → written_to k ws ≡ Some x → TrueReading (λ j. h j ++ versions_of (Some t) (written_to j ws)) t k (committed_reading t x)
+pub commit_true :
+    (h : History) (last t x k : ℕ) (ws : List Write) → is_key k ≡ true → last < t → UpTo last (h k) → written_to k ws ≡ Some x →
+    TrueReading (λ j. h j ++ versions_of (Some t) (written_to j ws)) t k (committed_reading t x)
 commit_true h last t x k ws key lt up e =
     let held = given_true h last t x k (written_to k ws) key lt up e in
     let P : ℕ → Type 0 = λ u. HoldsAt u (version_of t x) (h k ++ versions_of (Some t) (written_to k ws)) in
@@ -104,7 +116,9 @@ commit_true h last t x k ws key lt up e =
 -- Two readings of one version.
 
 -- of versions that rise strictly, two with one timestamp are the same
-same_at : (vs : List Version) → Rises vs → (v w : Version) → v.timestamp ≡ w.timestamp → (i j : ℕ) → i < length vs → j < length vs → ((d : Version) → get_or vs i d ≡ v) → ((d : Version) → get_or vs j d ≡ w) → v ≡ w
+same_at :
+    (vs : List Version) → Rises vs → (v w : Version) → v.timestamp ≡ w.timestamp → (i j : ℕ) → i < length vs → j < length vs →
+    ((d : Version) → get_or vs i d ≡ v) → ((d : Version) → get_or vs j d ≡ w) → v ≡ w
 same_at [] r v w e i j il jl ia ja = absurd (not-suc-le-zero il)
 same_at (x ∷ vs) r v w e zero zero il jl ia ja = sym (ia x) ∙ ja x
 same_at (x ∷ vs) r v w e zero (suc j) il jl ia ja =
@@ -120,7 +134,9 @@ same_version : (vs : List Version) → Rises vs → (v w : Version) → Has vs v
 same_version vs r v w f g e = same_at vs r v w e f.0 g.0 f.1 g.1 f.2 g.2
 
 -- two true readings with one timestamp are of one version, so that the larger promise is true of both
-pub widened_true : (h : History) (last k : ℕ) (r n : Reading) → Rises (h k) → TrueReading h last k r → TrueReading h last k n → r.timestamp ≡ n.timestamp → TrueReading h last k (widened r n.promise)
+pub widened_true :
+    (h : History) (last k : ℕ) (r n : Reading) → Rises (h k) → TrueReading h last k r → TrueReading h last k n →
+    r.timestamp ≡ n.timestamp → TrueReading h last k (widened r n.promise)
 widened_true h last k r n rises rt nt e =
     let of_r = (rt.current r.timestamp (omega arith) rt.reaches).there in
     let of_n = (nt.current n.timestamp (omega arith) nt.reaches).there in
@@ -144,7 +160,9 @@ pub record AnsweredAt (h : History) (last k s : ℕ) (r : Reading) : Type 0 wher
   pub not_later : r.timestamp ≤ s
   pub as_far : min s last ≤ r.promise
 
-pub store_true : (depth capacity : ℕ) (m : Meaning) (h : History) → Stands depth capacity m h → (k s : ℕ) (r : Reading) → is_key k ≡ true → version_answer m k s ≡ Ok r → AnsweredAt h m.last k s r
+pub store_true :
+    (depth capacity : ℕ) (m : Meaning) (h : History) → Stands depth capacity m h → (k s : ℕ) (r : Reading) → is_key k ≡ true →
+    version_answer m k s ≡ Ok r → AnsweredAt h m.last k s r
 store_true depth capacity m h stands k s r key e =
     let law : AnswerLaw m (h k) k s r = ((law_from_stands depth capacity m h stands).of_keys k key).answers s r e in
     record {

@@ -5,8 +5,10 @@ use Rattle.snapshot.specs.Accounts.{Account, greatest_timestamp, least_promise, 
 use Rattle.snapshot.specs.Limits.{open_end, is_key, is_worker}
 use Rattle.snapshot.specs.Limits as limit
 use Rattle.snapshot.specs.declared.account.Reading.{Reading}
+use Rattle.snapshot.specs.declared.account.Write.{Write}
 use Rattle.snapshot.specs.declared.fault.EngineFault.{EngineFault}
 use Rattle.snapshot.specs.declared.fault.Refusal.TheVariants.{VersionGone}
+use Rattle.snapshot.specs.declared.interval.Interval.{Interval}
 use Rattle.store.specs.Meaning.{Meaning, written_to}
 use Rattle.store.proofs.Standing.{Stands}
 use Rattle.lives.specs.Engines.{OpenLeg, LegState, unused, running, ended, Chain, Engine}
@@ -18,22 +20,36 @@ use Rattle.lives.specs.declared.limits.ChainLimits.{ChainLimits}
 use Rattle.lives.specs.declared.records.LegReading.{LegReading}
 use Rattle.lives.proofs.Readings.{History, TrueReading, AllTrue}
 
--- One open leg, in a chain with these readings, whose events tell of these writes on it.
+-- The interval of an open leg, in a chain with these readings.
+pub record TimesSound (last : ℕ) (readings : List LegReading) (i : Interval) : Type 0 where
+  -- it is not empty
+  pub some : i.low ≤ i.high
+  -- it ends at the open end or before
+  pub to_open_end : i.high ≤ open_end
+  -- and begins at last or before
+  pub from_known : i.low ≤ last
+  -- low is not above the greatest timestamp that the chain has read
+  pub low_read : i.low ≤ greatest_timestamp (map (λ r. r.made) readings)
+  -- nor high below the least promise
+  pub high_read : least_promise (map (λ r. r.made) readings) ≤ i.high
+
+-- The write set of an open leg, of which the events tell these writes.
+pub record WritesSound (limits : ChainLimits) (written : ℕ → Option ℕ) (ws : List Write) : Type 0 where
+  -- its keys rise
+  pub rising : rising_from 0 ws ≡ true
+  -- it is no larger than the chain's limit
+  pub few : length ws ≤ limits.write_keys
+  -- it has what the events tell
+  pub as_told : (k : ℕ) → written_to k ws ≡ written k
+
+-- One open leg.
 pub record LegSound (last : ℕ) (limits : ChainLimits) (readings : List LegReading) (written : ℕ → Option ℕ) (leg : OpenLeg) : Type 0 where
   -- its worker is one
   pub worker : is_worker leg.worker ≡ true
-  -- its interval is not empty, ends at the open end or before, and begins at last or before
-  pub some : leg.interval.low ≤ leg.interval.high
-  pub to_open_end : leg.interval.high ≤ open_end
-  pub from_known : leg.interval.low ≤ last
-  -- low is not above the greatest timestamp that the chain has read, nor high below the least promise
-  pub low_read : leg.interval.low ≤ greatest_timestamp (map (λ r. r.made) readings)
-  pub high_read : least_promise (map (λ r. r.made) readings) ≤ leg.interval.high
-  -- its writes are fit for a store and the book
-  pub rising : rising_from 0 leg.writes ≡ true
-  pub few_writes : length leg.writes ≤ limits.write_keys
-  -- and are those that the events tell of
-  pub as_told : (k : ℕ) → written_to k leg.writes ≡ written k
+  -- its interval is sound
+  pub times : TimesSound last readings leg.interval
+  -- and so is its write set
+  pub writes : WritesSound limits written leg.writes
 
 -- what is so of a leg if it is open
 abbrev pub IfRunning : (OpenLeg → Type 0) → LegState → Type 0
@@ -43,72 +59,93 @@ IfRunning P ended = Unit {0}
 
 -- a reading covers the interval of one of these legs that is open
 pub record Covers (legs : ℕ → LegState) (r : LegReading) : Type 0 where
+  -- the leg, by its number
   pub number : ℕ
   pub leg : OpenLeg
   pub is_open : legs number ≡ running leg
+  -- the reading's version is known to be current from its low end to its high end
   pub from_low : r.made.reading.timestamp ≤ leg.interval.low
   pub to_high : leg.interval.high ≤ r.made.reading.promise
 
--- a reading that a chain made: its worker is one, and it is true
+-- a reading that a chain made
 pub record ReadingSound (h : History) (last : ℕ) (r : LegReading) : Type 0 where
+  -- its worker is one
   pub worker : is_worker r.made.worker ≡ true
+  -- it is true
   pub is_true : TrueReading h last r.made.key r.made.reading
 
 -- a value that was answered is that of one of these readings
 pub record Shown (readings : List LegReading) (x : ValueRead) : Type 0 where
+  -- the reading
   pub reading : LegReading
   pub there : Has readings reading
+  -- it is of the key that was read, and has the value that was answered
   pub same_key : reading.made.key ≡ x.key
   pub same_value : reading.made.reading.value ≡ x.value
 
 -- The legs of a chain, of which the events tell this.
 pub record LegsSound (last : ℕ) (limits : ChainLimits) (told : ChainTold) (c : Chain) : Type 0 where
-  -- no more legs were opened than there are numbers, and none beyond those
+  -- no more legs were opened than there are numbers
   pub few_legs : c.opened ≤ limit.legs
+  -- those not opened yet are unused
   pub unopened : (l : ℕ) → c.opened ≤ l → c.legs l ≡ unused
   -- every open leg is sound
   pub each : (l : ℕ) → IfRunning (LegSound last limits c.readings (told.written l)) (c.legs l)
 
 -- One open chain, of which the events tell this.
 pub record ChainSound (h : History) (last : ℕ) (limits : ChainLimits) (told : ChainTold) (c : Chain) : Type 0 where
+  -- its legs are sound
   pub legs : LegsSound last limits told c
-  -- every reading is true, and covers the interval of some open leg
+  -- it has no more readings than its limit
   pub few_readings : length c.readings ≤ limits.readings
+  -- every reading is true
   pub readings : AllByRecursion (ReadingSound h last) c.readings
+  -- and covers the interval of some open leg
   pub covered : AllByRecursion (Covers c.legs) c.readings
   -- every value answered outside the chain's writes is that of a reading
   pub shown : AllByRecursion (Shown c.readings) told.outside
 
 -- The whole engine, over a new store that has become m, after a life with this history that tells this of each place.
 pub record Sound (store : NewStore) (limits : ChainLimits) (h : History) (told : ℕ → ChainTold) (m : Meaning) (s : Engine) : Type 0 where
-  -- the store is as the life tells, and keeps the end of the history of each key
+  -- the store is as the life tells
   pub same_store : s.store ≡ m
+  -- it keeps the end of the history of each key, within its depth and capacity
   pub stands : Stands store.depth store.capacity s.store h
+  -- nothing has happened at the open end
   pub before_end : s.store.last < open_end
-  -- every entry of every cache, and every notice that waits, is true
+  -- every entry of every cache is true
   pub caches : (w : ℕ) → AllTrue h s.store.last (s.caches w)
+  -- every notice that waits is true
   pub notices : AllByRecursion (λ n. TrueReading h s.store.last n.key n.reading) s.notices.waiting
   -- every open chain is sound
   pub chains : (p : ℕ) → IfSome (s.places p) (ChainSound h s.store.last limits (told p))
 
 -- A committed account.
 
--- a value that was answered is that of a true reading, known to be current in all of an interval
+-- a value that was answered is backed by a reading, in all of an interval
 pub record Backed (h : History) (last low high : ℕ) (x : ValueRead) : Type 0 where
   pub reading : Reading
+  -- the reading is true, and has that value
   pub is_true : TrueReading h last x.key reading
   pub same_value : reading.value ≡ x.value
+  -- its version is known to be current in all of the interval
   pub from_low : reading.timestamp ≤ low
   pub to_high : high ≤ reading.promise
 
 -- The account of a commit by leg l of a chain of which the events had told this, after the history `before`: what the law says
 -- of it, where each value that was read is backed by a reading that is true of the history h.
 pub record Confirmed (h : History) (last : ℕ) (before : History) (told : ChainTold) (l : ℕ) (a : Account) : Type 0 where
+  -- its interval is not empty
   pub some : a.low ≤ a.high
+  -- every value that the chain read outside its own writes is backed in all of it
   pub backed : AllByRecursion (Backed h last a.low a.high) told.outside
+  -- its writes are those that the events tell of the leg
   pub its_writes : (k : ℕ) → written_to k a.writes ≡ told.written l k
+  -- its timestamp is later than everything before
   pub after_history : 1 ≤ length a.writes → (k : ℕ) → is_key k ≡ true → AllByRecursion (λ v. v.timestamp < a.timestamp) (before k)
+  -- and than every promise in it
   pub after_promises : 1 ≤ length a.writes → AllByRecursion (λ r. r.reading.promise < a.timestamp) a.readings
+  -- the book takes it
   pub for_the_book : lawful a ≡ true
 
 -- The invariant of a life.

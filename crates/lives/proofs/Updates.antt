@@ -10,7 +10,9 @@ pub at_other : {X : Type 0} (i : ℕ) (x : X) (f : ℕ → X) (j : ℕ) → (j �
 at_other i x f j ne = cond-false (j == i) x (f j) (ne_eqb j i ne)
 
 -- what holds of the new value and everywhere before, holds everywhere
-pub at_each : {X : Type 0} (P : ℕ → X → Type 0) (i : ℕ) (x : X) (f : ℕ → X) → P i x → ((j : ℕ) → P j (f j)) → (j : ℕ) → P j (with_at i x f j)
+pub at_each :
+    {X : Type 0} (P : ℕ → X → Type 0) (i : ℕ) (x : X) (f : ℕ → X) → P i x → ((j : ℕ) → P j (f j)) → (j : ℕ) →
+    P j (with_at i x f j)
 at_each P i x f here each j =
     let Q : ℕ → Type 0 = λ k. P k x in
     cond_both (j == i) x (f j) (P j) (λ e. subst Q (sym (eqb-true j i e)) here) (λ _. each j)

@@ -14,29 +14,37 @@ use Rattle.lives.specs.WriteSets.{with_write, united}
 
 -- A write.
 
-write_rises_lem : (least : ℕ) (w : Write) (ws : List Write) → least ≤ w.key → is_key w.key ≡ true → rising_from least ws ≡ true → rising_from least (with_write w ws) ≡ true
+write_rises_lem :
+    (least : ℕ) (w : Write) (ws : List Write) → least ≤ w.key → is_key w.key ≡ true → rising_from least ws ≡ true →
+    rising_from least (with_write w ws) ≡ true
 write_rises_lem least w [] le key e = grind (arith, nat_tests)
 write_rises_lem least w (x ∷ xs) le key e =
     let later = rising_later least x xs e in
     let rest : x.key < w.key → rising_from (suc x.key) (with_write w xs) ≡ true = λ lt. write_rises_lem (suc x.key) w xs (omega arith) key later in
     grind (arith, nat_tests)
 
-write_has_lem : (w : Write) (ws : List Write) (k : ℕ) → written_to k (with_write w ws) ≡ with_at w.key (Some w.value) (λ j. written_to j ws) k
+write_has_lem :
+    (w : Write) (ws : List Write) (k : ℕ) → written_to k (with_write w ws) ≡ with_at w.key (Some w.value) (λ j. written_to j ws) k
 write_has_lem w [] k = grind (arith, nat_tests)
 write_has_lem w (x ∷ xs) k = let rest = write_has_lem w xs k in grind (arith, nat_tests)
 
 -- A join.
 
-join_rises_lem : (least : ℕ) (xs ys : List Write) → rising_from 0 xs ≡ true → rising_from least ys ≡ true → rising_from 0 (united xs ys) ≡ true
+join_rises_lem :
+    (least : ℕ) (xs ys : List Write) → rising_from 0 xs ≡ true → rising_from least ys ≡ true → rising_from 0 (united xs ys) ≡ true
 join_rises_lem least xs [] ex ey = ex
 join_rises_lem least xs (w ∷ ws) ex ey =
     join_rises_lem (suc w.key) (with_write w xs) ws (write_rises_lem 0 w xs (omega arith) (grind (arith, nat_tests)) ex) (rising_later least w ws ey)
 
 -- a key that is written first and not again has that value
-join_step : (w : Write) (k : ℕ) (first later : Option ℕ) → (w.key ≡ k → later ≡ None) → option_or later (if k == w.key then (Some w.value) else first) ≡ option_or (if w.key == k then (Some w.value) else later) first
+join_step :
+    (w : Write) (k : ℕ) (first later : Option ℕ) → (w.key ≡ k → later ≡ None) →
+    option_or later (if k == w.key then (Some w.value) else first) ≡ option_or (if w.key == k then (Some w.value) else later) first
 join_step w k first later h = grind (arith, nat_tests)
 
-join_has_lem : (least : ℕ) (xs ys : List Write) (k : ℕ) → rising_from least ys ≡ true → written_to k (united xs ys) ≡ option_or (written_to k ys) (written_to k xs)
+join_has_lem :
+    (least : ℕ) (xs ys : List Write) (k : ℕ) → rising_from least ys ≡ true →
+    written_to k (united xs ys) ≡ option_or (written_to k ys) (written_to k xs)
 join_has_lem least xs [] k e = refl
 join_has_lem least xs (w ∷ ws) k e =
     let later = rising_later least w ws e in

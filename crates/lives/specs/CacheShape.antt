@@ -3,6 +3,8 @@ use Rattle.std.specs.Prelude.{◌≡◌, ℕ, ◌<◌, ◌≤◌, [], ◌∷◌,
 use Rattle.std.specs.List.{AllByRecursion}
 use Rattle.snapshot.specs.Limits.{cache_keys}
 use Rattle.lives.specs.Caches.{Cache, look_up, used_latest, with_answer, with_notice}
+use Rattle.lives.specs.Lives.{Life, NewStore, engine_after}
+use Rattle.lives.specs.Rules.{the_rules}
 use Rattle.lives.specs.declared.records.CacheEntry.{CacheEntry}
 use Rattle.lives.specs.declared.records.Notice.{Notice}
 
@@ -15,12 +17,13 @@ abbrev pub Apart : Cache → Type 0
 Apart [] = Unit {0}
 Apart (e ∷ es) = NoneOf e.key es × Apart es
 
+-- a cache in shape
 pub record Shaped (c : Cache) : Type 0 where
   pub few_enough : length c ≤ cache_keys
   pub apart : Apart c
 
 pub record CacheShape : Type 0 where
-  -- a cache starts in shape, and every call keeps it so
+  -- an empty cache is in shape, and a use, a store's answer and a notice keep it so
   pub empty : Shaped []
   pub used : (e : CacheEntry) (c : Cache) → Shaped c → Shaped (used_latest e c)
   pub stored : (s : ℕ) (e : CacheEntry) (c : Cache) → Shaped c → Shaped (with_answer s e c)
@@ -34,3 +37,7 @@ pub record CacheShape : Type 0 where
   pub gives_way : (e : CacheEntry) (c : Cache) → length c ≡ cache_keys → NoneOf e.key c → used_latest e c ≡ drop 1 c ++ (e ∷ [])
   -- a notice leaves the keys in their order
   pub same_keys : (n : Notice) (c : Cache) → map (λ e. e.key) (with_notice n c) ≡ map (λ e. e.key) c
+
+-- throughout every life each worker's cache is in shape
+abbrev pub ShapedInEveryLife : Type 0
+ShapedInEveryLife = (store : NewStore) (life : Life) (w : ℕ) → Shaped ((engine_after the_rules store life).caches w)

@@ -18,11 +18,13 @@ abbrev pub look_up : ℕ → Cache → Option CacheEntry
 look_up k [] = None
 look_up k (e ∷ es) = if e.key == k then Some e else look_up k es
 
+-- has it an entry of the key?
 abbrev pub holds : ℕ → Cache → Bool
 holds k c = is_some (look_up k c)
 
 -- A read.
 
+-- an entry, if there is one and it meets the interval
 abbrev pub if_meets : Interval → Option CacheEntry → Option CacheEntry
 if_meets i None = None
 if_meets i (Some e) = if meets_reading i e.reading then Some e else None

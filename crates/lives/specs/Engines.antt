@@ -83,6 +83,7 @@ pub record Engine : Type 0 where
   pub notices : Notices
   pub store : Meaning
 
+-- a new engine has no chain, no entry, no notice, and none that was lost
 abbrev pub new_engine : Meaning → Engine
 new_engine m =
     record { places = λ p. None; caches = λ w. []; notices = record { waiting = []; lost = 0 }; store = m }

@@ -3,7 +3,7 @@ use Rattle.std.specs.Prelude.{◌≡◌, ℕ, ◌+◌, max, if◌then◌else◌,
 use Rattle.std.proofs.Common.{lit≤}
 use Rattle.std.specs.List.{ContainsAt as Has}
 use Rattle.snapshot.specs.Accounts.{Account}
-use Rattle.snapshot.specs.Intervals.{from_to, narrowed}
+use Rattle.snapshot.specs.Intervals.{Lies, from_to, narrowed}
 use Rattle.snapshot.specs.Limits.{open_end}
 use Rattle.snapshot.specs.Refusals.{around_store}
 use Rattle.snapshot.specs.declared.account.ChainReading.{ChainReading}
@@ -13,8 +13,8 @@ use Rattle.snapshot.specs.declared.fault.Fault.{Fault}
 use Rattle.snapshot.specs.declared.fault.Refusal.TheVariants.{VersionGone}
 use Rattle.snapshot.specs.declared.interval.Interval.{Interval}
 use Rattle.store.specs.Meaning.{Meaning, issued, version_of, version_answer, question_fault}
-use Rattle.lives.specs.Law.{ValueAt, AccountLaw, GoneLaw, leg_at, Lawful}
-use Rattle.lives.specs.Lives.{event, NewStore, engine_after, life_of, history_of, store_after}
+use Rattle.lives.specs.Law.{ValueAt, AccountLaw, GoneLaw, leg_at, LawOfLives, Lawful}
+use Rattle.lives.specs.Lives.{event, Life, NewStore, engine_after, life_of, history_of, store_after, value_read, told_of}
 use Rattle.lives.specs.Rules.{Rules, the_caches, the_write_sets, the_limits, the_rules}
 use Rattle.lives.specs.declared.calls.Call.{Call}
 use Rattle.lives.specs.declared.calls.Call.TheVariants as call
@@ -32,8 +32,8 @@ account l h t rs ws = record { low = l; high = h; timestamp = t; readings = rs; 
 -- A late notice, a split chain and a dropped version meet. Key 7 is the dock's zone, 9 its set record, 11 the guard's orders.
 
 -- the zone is 5 from time 10 on, the set record 3 from time 20 on; worker 1 has read the zone, and holds it as known up to 20
-abbrev pub morning : List Call
-morning =
+abbrev pub two_commits_and_a_read : List Call
+two_commits_and_a_read =
     call.Begin 0 1 ∷ call.Write 0 0 7 5 ∷ call.Commit 0 0 10 32 8
     ∷ call.Begin 0 2 ∷ call.Write 0 0 9 3 ∷ call.Commit 0 0 20 32 8
     ∷ call.Begin 0 1 ∷ call.Read 0 0 7 ∷ call.Commit 0 0 0 32 8
@@ -41,15 +41,15 @@ morning =
 
 -- the zone is 6 from time 30 on, and the notice of that for worker 1 is late; a chain splits, one leg reads the zone from worker
 -- 1's cache, the other the set record that was committed since, and they are joined at worker 5
-abbrev pub evening : List Call
-evening =
+abbrev pub split_and_joined : List Call
+split_and_joined =
     call.Begin 0 4 ∷ call.Write 0 0 7 6 ∷ call.Commit 0 0 30 32 8
     ∷ call.Begin 0 3 ∷ call.Fork 0 0 1 2 ∷ call.Read 0 1 7 ∷ call.Read 0 2 9 ∷ call.Join 0 1 2 5
     ∷ []
 
 -- the joined leg asks the store for the zone; then a prune drops that version, which both readings of the zone are of
 abbrev pub read_then_pruned : List Call
-read_then_pruned = morning ++ (evening ++ (call.Read 0 3 7 ∷ call.Prune 30 ∷ call.Write 0 3 11 1 ∷ []))
+read_then_pruned = two_commits_and_a_read ++ (split_and_joined ++ (call.Read 0 3 7 ∷ call.Prune 30 ∷ call.Write 0 3 11 1 ∷ []))
 
 -- and the chain commits
 abbrev pub break_in : List Call
@@ -57,7 +57,7 @@ break_in = read_then_pruned ++ (call.Commit 0 3 40 32 8 ∷ [])
 
 -- the same with the prune moved before that read
 abbrev pub pruned : List Call
-pruned = morning ++ (evening ++ (call.Prune 30 ∷ []))
+pruned = two_commits_and_a_read ++ (split_and_joined ++ (call.Prune 30 ∷ []))
 
 -- a table of 1,024 records
 abbrev pub table : NewStore
@@ -91,18 +91,30 @@ pub record BreakIn : Type 0 where
       GoneLaw (history_of (life_of the_rules table pruned)) (store_after table (life_of the_rules table pruned)).kept
       (leg_at (engine_after the_rules table (life_of the_rules table pruned)) 0 3) 7
 
--- Two wrong rules, each with a short life in which a committed account shows a site that never was: the zone 5 at time 30, when
--- it was 6.
+-- Two wrong rules, each with a short life in which a committed account tells of the zone what was not so: 5 at time 30.
 
 -- rules with one in which something is wrong
 abbrev pub rules_but : (Meaning → ℕ → ℕ → Result Reading Fault) → (Interval → Reading → Interval) → Rules
 rules_but version narrow =
     record { version = version; narrow = narrow; timestamps = issued; caches = the_caches; write_sets = the_write_sets; limits = the_limits }
 
--- the account that is committed last shows the zone 5 at a time at which it was 6, and so the rules are not lawful
+-- the life by these calls and a commit
+abbrev pub then_committed : Rules → List Call → Life
+then_committed rules calls = life_of rules table (calls ++ (call.Commit 0 0 0 32 8 ∷ []))
+
+-- It contradicts the law, so that the rules are not lawful.
 pub record Breaks (rules : Rules) (calls : List Call) (shown : Account) : Type 0 where
-  pub committed : life_of rules table (calls ++ (call.Commit 0 0 0 32 8 ∷ [])) ≡ event (call.Commit 0 0 0 32 8) (Ok shown) ∷ life_of rules table calls
-  pub zone : ValueAt 30 6 (history_of (life_of rules table (calls ++ (call.Commit 0 0 0 32 8 ∷ []))) 7)
+  -- the commit is accepted with this account
+  pub committed : then_committed rules calls ≡ event (call.Commit 0 0 0 32 8) (Ok shown) ∷ life_of rules table calls
+  -- its chain has read the zone as 5, and nothing else
+  pub has_read : (told_of (life_of rules table calls) 0).outside ≡ value_read 7 5 ∷ []
+  -- time 30 is in its interval
+  pub at_thirty : Lies 30 (from_to shown.low shown.high)
+  -- but then the zone was 6, and not 5
+  pub six : ValueAt 30 6 (history_of (then_committed rules calls) 7)
+  pub not_five : ValueAt 30 5 (history_of (then_committed rules calls) 7) → ⊥
+  -- and so the life does not keep the law
+  pub contradicts : LawOfLives rules table (then_committed rules calls) → ⊥
   pub unlawful : Lawful rules → ⊥
 
 -- narrowing forgets the promise

@@ -1,4 +1,4 @@
--- The law of lives: every committed account shows a site that was.
+-- The law of lives: what a committed chain has read was true together, at every time of its account's interval.
 use Rattle.std.specs.Prelude.{◌≡◌, ℕ, ◌<◌, ◌≤◌, true, List, ◌∷◌, length, Some, None, Ok, Err, Option}
 use Rattle.std.specs.List.{ContainsAt as Has, AllByRecursion}
 use Rattle.snapshot.specs.Accounts.{Account, lawful}
@@ -42,11 +42,12 @@ abbrev pub leg_in : Option Chain → ℕ → LegState
 leg_in None l = unused
 leg_in (Some c) l = c.legs l
 
+-- a leg of an engine's chain at a place
 abbrev pub leg_at : Engine → ℕ → ℕ → LegState
 leg_at s p l = leg_in (s.places p) l
 
--- A read of key k that was refused as gone, on a leg in this state: the leg was open, the history held a version of the key at
--- the high end of the leg's interval, and the store, which had kept these versions of each key, has dropped it.
+-- A read of key k that was refused as gone, on a leg in this state, where `kept` is what the store still keeps of each key: the
+-- leg is open, and the version of the key that the history holds at the high end of its interval is not among those kept.
 pub record GoneLaw (history kept : ℕ → List Version) (leg : LegState) (k : ℕ) : Type 0 where
   pub reader : OpenLeg
   pub is_open : leg ≡ running reader

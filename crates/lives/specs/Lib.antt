@@ -1,12 +1,12 @@
 pub mod Updates
 pub mod WriteSets
 pub mod Caches
-pub mod CacheShape
 pub mod Rules
 pub mod RuleLaws
 pub mod Engines
 pub mod Notices
 pub mod Steps
 pub mod Lives
+pub mod CacheShape
 pub mod Law
 pub mod Examples

@@ -134,8 +134,11 @@ pub record ValueRead : Type 0 where
   pub key : ℕ
   pub value : ℕ
 
+abbrev pub value_read : ℕ → ℕ → ValueRead
+value_read k x = record { key = k; value = x }
+
 -- what the events tell of a chain: of each leg and key the value that the leg has written or taken over, if any, and the
--- reads that were answered while the leg had none
+-- reads that were answered while the leg had none, the latest first
 pub record ChainTold : Type 0 where
   pub written : ℕ → ℕ → Option ℕ
   pub outside : List ValueRead
@@ -152,10 +155,10 @@ abbrev pub outside_with : Option ℕ → ValueRead → List ValueRead → List V
 outside_with None r rs = r ∷ rs
 outside_with (Some x) r rs = rs
 
+-- a leg was answered this value for a key
 abbrev pub leg_read : ℕ → ℕ → ℕ → ChainTold → ChainTold
 leg_read l k x d =
-    let r : ValueRead = record { key = k; value = x } in
-    record { written = d.written; outside = outside_with (d.written l k) r d.outside }
+    record { written = d.written; outside = outside_with (d.written l k) (value_read k x) d.outside }
 
 -- what an accepted call tells of the chains, by their places: a begin starts anew, a new leg takes over the writes of those
 -- that ended for it (where both legs of a join have a key, the second-named one's value), a write and a read are noted

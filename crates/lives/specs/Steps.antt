@@ -46,10 +46,12 @@ pub data Outcome (X : Type 0) : Type 0 where
   refused : EngineFault → Outcome X
   accepted : X → Engine → Outcome X
 
+-- what the call answers
 abbrev pub answer_in : {X : Type 0} → Outcome X → Result X EngineFault
 answer_in (refused f) = Err f
 answer_in (accepted x s) = Ok x
 
+-- what it leaves: a refused call leaves the engine as it was
 abbrev pub engine_in : {X : Type 0} → Engine → Outcome X → Engine
 engine_in s (refused f) = s
 engine_in s (accepted x after) = after
@@ -208,7 +210,7 @@ module _ (rules : Rules) (depth : ℕ) where
       (check (nat_lt (length chain.readings) rules.limits.readings) (no ReadingsFull)
       (look_further p l k chain leg s)))))
 
-  -- the engine after a store took the writes at this timestamp, and raised the notices of them
+  -- the engine after the store took the writes at this timestamp, with the notices of them raised
   abbrev pub after_store_commit : List Write → ℕ → Engine → Engine
   after_store_commit ws t s =
       with_store (with_writes depth t ws s.store)
@@ -256,6 +258,15 @@ module _ (rules : Rules) (depth : ℕ) where
       let left : Notices = record { waiting = remove s.notices.waiting i; lost = s.notices.lost } in
       accepted tt (with_notices left s))
 
+  -- how many notices wait, and how many were lost
+  abbrev pub count_step : Engine → Outcome (ℕ × ℕ)
+  count_step s = accepted (length s.notices.waiting, s.notices.lost) s
+
+  -- the store's prune
+  abbrev pub prune_step : ℕ → Engine → Outcome (Unit {0})
+  prune_step h s = accepted tt (with_store (after_prune h s.store) s)
+
+  -- each call by its own rule
   abbrev pub step : (c : Call) → Engine → Outcome (AnswerTo c)
   step (call.Begin p w) s = begin_step p w s
   step (call.Hand p l w) s = hand_step p l w s
@@ -267,5 +278,5 @@ module _ (rules : Rules) (depth : ℕ) where
   step (call.Abandon p) s = abandon_step p s
   step (call.Deliver i) s = deliver_step i s
   step (call.Discard i) s = discard_step i s
-  step call.Count s = accepted (length s.notices.waiting, s.notices.lost) s
-  step (call.Prune h) s = accepted tt (with_store (after_prune h s.store) s)
+  step call.Count s = count_step s
+  step (call.Prune h) s = prune_step h s

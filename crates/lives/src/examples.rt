@@ -108,7 +108,7 @@ pub fn break_in() -> [Call; 21]
 }
 
 // A chain reads the zone, and before it commits another one writes it. By rules under which narrowing forgets the promise, a
-// commit after these calls shows a site that never was.
+// commit after these calls shows what was not so.
 pub fn written_behind() -> [Call; 8]
     ensures calls { result ≡ example.written_behind }
     ensures breaks { example.ForgottenPromise }
@@ -126,7 +126,7 @@ pub fn written_behind() -> [Call; 8]
 }
 
 // A chain that read at time 10 reads the old zone and so leaves it in worker 1's cache, from which the next chain reads. By
-// rules under which a promise is one too late, a commit after these calls shows a site that never was.
+// rules under which a promise is one too late, a commit after these calls shows what was not so.
 pub fn read_from_cache() -> [Call; 12]
     ensures calls { result ≡ example.read_from_cache }
     ensures breaks { example.LatePromise }

@@ -1,6 +1,6 @@
-// The law of lives: every committed account shows a site that was.
+// The law of lives: what a committed chain has read was true together, at every time of its account's interval.
 ghost use Rattle.std.specs.Prelude.{◌≡◌};
-ghost use Rattle.lives.specs.CacheShape.{CacheShape};
+ghost use Rattle.lives.specs.CacheShape.{CacheShape, ShapedInEveryLife};
 ghost use Rattle.lives.specs.Law.{Lawful, RestsOnLaws};
 ghost use Rattle.lives.specs.Rules.{the_limits, the_rules};
 
@@ -8,13 +8,14 @@ use crate::limits::ChainLimits;
 use snapshot::limits::{CHAIN_READINGS, WRITE_KEYS};
 
 // The limits of every chain. Proved with them: every life by the rules keeps the law, over a new store of any depth and
-// capacity; whatever caches, write sets and limits keep their own laws may stand in the place of these; and caches stay in
-// shape.
+// capacity; whatever caches, timestamps, write sets and limits keep their own laws may stand in the place of these; and
+// throughout every life the caches are in shape.
 pub fn law_of_lives() -> ChainLimits
     ensures limits { result ≡ the_limits }
     ensures lawful { Lawful the_rules }
     ensures rests { RestsOnLaws }
     ensures caches { CacheShape }
+    ensures shaped { ShapedInEveryLife }
 {
     ChainLimits {
         write_keys: WRITE_KEYS,

@@ -96,8 +96,7 @@ pub record KeyLaw (m : Meaning) (ever : List Version) (k : ℕ) : Type 0 where
   pub only_where : (s : ℕ) (d : Version) → version_answer m k s ≡ Err (question_fault VersionGone k) → s < (slice_index_or (m.kept k) 0 d).timestamp
   pub every_where : (s : ℕ) (d : Version) → is_time s ≡ true → s < (slice_index_or (m.kept k) 0 d).timestamp → version_answer m k s ≡ Err (question_fault VersionGone k)
 
--- what the laws rest on of the way in which timestamps are chosen: a commit can have the one that is issued, and it is later
--- than last
+-- a way of choosing timestamps that a store can take: a commit can have the one that is issued, and it is later than last
 pub record IssuingLaws (issue : Issuing) : Type 0 where
   pub fits : (clock last t : ℕ) → issue clock last ≡ Ok t → is_timestamp t ≡ true
   pub later : (clock last t : ℕ) → issue clock last ≡ Ok t → last < t

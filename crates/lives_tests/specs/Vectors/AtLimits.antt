@@ -2,8 +2,9 @@
 use Rattle.std.specs.Prelude.{[], ◌∷◌}
 use Rattle.std.proofs.Common.{lit≤}
 use Rattle.snapshot.specs.declared.fault.Layer.TheVariants as layer
+use Rattle.lives.specs.Examples.{read, wrote}
 use Rattle.lives.specs.declared.calls.Call.TheVariants as call
-use Rattle.lives_tests.specs.Answered.{Vector, table, read, wrote, committed, leg, legs, value, notices, done, refused}
+use Rattle.lives_tests.specs.Answered.{Vector, table, committed, leg, legs, value, notices, done, refused}
 
 -- a chain's thirty-third reading is refused
 abbrev pub thirty_two_readings : Vector

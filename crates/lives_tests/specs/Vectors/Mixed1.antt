@@ -2,8 +2,9 @@
 use Rattle.std.specs.Prelude.{[], ◌∷◌}
 use Rattle.std.proofs.Common.{lit≤}
 use Rattle.snapshot.specs.declared.fault.Layer.TheVariants as layer
+use Rattle.lives.specs.Examples.{read, wrote}
 use Rattle.lives.specs.declared.calls.Call.TheVariants as call
-use Rattle.lives_tests.specs.Answered.{Vector, table, read, wrote, committed, leg, legs, value, notices, done, refused}
+use Rattle.lives_tests.specs.Answered.{Vector, table, committed, leg, legs, value, notices, done, refused}
 
 -- 88 calls over a table of 1024 records: several chains at once; refused with 1, 2, 3, 10, 12, 15 and 16
 abbrev pub mixed_01 : Vector

@@ -2,8 +2,9 @@
 use Rattle.std.specs.Prelude.{[], ◌∷◌}
 use Rattle.std.proofs.Common.{lit≤}
 use Rattle.snapshot.specs.declared.fault.Layer.TheVariants as layer
+use Rattle.lives.specs.Examples.{read, wrote}
 use Rattle.lives.specs.declared.calls.Call.TheVariants as call
-use Rattle.lives_tests.specs.Answered.{Vector, table, newest, read, wrote, committed, leg, legs, value, notices, done, refused}
+use Rattle.lives_tests.specs.Answered.{Vector, table, newest, committed, leg, legs, value, notices, done, refused}
 
 -- 87 calls over a newest store: old intervals; refused with 1, 3, 4, 6, 9, 15 and 16
 abbrev pub mixed_06 : Vector

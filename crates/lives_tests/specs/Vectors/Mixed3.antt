@@ -2,8 +2,9 @@
 use Rattle.std.specs.Prelude.{[], ◌∷◌}
 use Rattle.std.proofs.Common.{lit≤}
 use Rattle.snapshot.specs.declared.fault.Layer.TheVariants as layer
+use Rattle.lives.specs.Examples.{read, wrote}
 use Rattle.lives.specs.declared.calls.Call.TheVariants as call
-use Rattle.lives_tests.specs.Answered.{Vector, table, read, wrote, committed, leg, legs, value, notices, done, refused}
+use Rattle.lives_tests.specs.Answered.{Vector, table, committed, leg, legs, value, notices, done, refused}
 
 -- 84 calls over a table of 128 records: full caches and write sets; refused with 1, 3, 4, 10 and 16
 abbrev pub mixed_11 : Vector

@@ -1,6 +1,7 @@
 -- The law is proved from the laws of its parts.
 use Rattle.lives.proofs.CacheShapeProofs.{cache_shape}
 use Rattle.lives.proofs.LifeProofs.{rests_on_laws, the_rules_lawful}
+use Rattle.lives.proofs.ShapedLives.{shaped_in_every_life}
 use Rattle.lives.proofs.law.law_of_lives.Goals as goal
 
 pub returns-clause-lawful : goal.returns-clause-lawful
@@ -11,3 +12,6 @@ returns-clause-rests c = rests_on_laws
 
 pub returns-clause-caches : goal.returns-clause-caches
 returns-clause-caches c = cache_shape
+
+pub returns-clause-shaped : goal.returns-clause-shaped
+returns-clause-shaped c = shaped_in_every_life
