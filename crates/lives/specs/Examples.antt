@@ -68,6 +68,7 @@ abbrev pub break_in_account : Account
 break_in_account =
     account 20 20 40 (read 1 7 5 10 20 ∷ read 2 9 3 20 30 ∷ read 5 7 5 10 29 ∷ []) (wrote 11 1 ∷ [])
 
+-- What comes of it.
 pub record BreakIn : Type 0 where
   -- the commit is accepted with that account
   pub committed :
@@ -129,6 +130,7 @@ written_behind =
     ∷ call.Begin 1 3 ∷ call.Write 1 0 7 6 ∷ call.Commit 1 0 30 32 8
     ∷ []
 
+-- the commit's account says so of all times from 10 on
 abbrev pub ForgottenPromise : Type 0
 ForgottenPromise = Breaks forgets_promise written_behind (account 10 open_end 0 (read 1 7 5 10 10 ∷ []) [])
 
@@ -158,5 +160,6 @@ read_from_cache =
     ∷ call.Begin 0 1 ∷ call.Read 0 0 7
     ∷ []
 
+-- the commit's account says so of times 10 to 30
 abbrev pub LatePromise : Type 0
 LatePromise = Breaks promises_late read_from_cache (account 10 30 0 (read 1 7 5 10 30 ∷ []) [])
