@@ -1,6 +1,6 @@
 -- A read is refused as gone only where the store has dropped the version that the history holds at the high end of its
 -- leg's interval.
-use Rattle.std.proofs.Common.{◌≡◌, ℕ, true, Err, Option, sym, ap, ◌∙◌, subst, arith}
+use Rattle.std.proofs.Common.{◌≡◌, ℕ, true, Err, Option, ap, ◌∙◌, subst, arith}
 use Rattle.std.specs.Option.{ok_or}
 use Rattle.std.specs.Result.{result_and}
 use Rattle.std.specs.List.{ContainsAt as Has}
@@ -17,9 +17,9 @@ use Rattle.lives.specs.Law.{GoneLaw, leg_in, leg_at}
 use Rattle.lives.specs.Lives.{NewStore, ChainTold}
 use Rattle.lives.specs.RuleLaws.{LawfulParts, rules_of}
 use Rattle.lives.specs.Rules.{Rules}
-use Rattle.lives.specs.Steps.{Outcome, refused, accepted, answer_in, step}
+use Rattle.lives.specs.Steps.{Outcome, refused, answer_in, step}
 use Rattle.lives.specs.declared.calls.Call.TheVariants as call
-use Rattle.lives.proofs.Outcomes.{at_check, at_open_leg, at_result, at_else}
+use Rattle.lives.proofs.Outcomes.{IfRefused, if_refused, at_check, at_open_leg, at_result, at_else}
 use Rattle.lives.proofs.Readings.{History}
 use Rattle.lives.proofs.Sound.{Sound}
 
@@ -29,15 +29,6 @@ gone_fault :
     f.refusal ≡ VersionGone →
     result_and (in_range k s) (ok_or o (question_fault VersionGone k)) ≡ Err (question_fault VersionGone k)
 gone_fault k s o f e gone = grind arith
-
--- what follows where a call is refused as gone
-abbrev IfGone : {X : Type 0} → Type 0 → Outcome X → Type 0
-IfGone P (refused f) = f.fault.refusal ≡ VersionGone → P
-IfGone P (accepted x s) = Unit {0}
-
-if_gone : {X : Type 0} (P : Type 0) (o : Outcome X) (f : EngineFault) → Err f ≡ answer_in o → f.fault.refusal ≡ VersionGone → IfGone P o → P
-if_gone P (refused g) f e gone h = let same : f ≡ g = cc in h (sym (ap (λ x. x.fault.refusal) same) ∙ gone)
-if_gone P (accepted x s) f e gone h = absurd (grind arith)
 
 module _
     (parts : LawfulParts)
@@ -51,8 +42,9 @@ module _
         f.fault.refusal ≡ VersionGone → GoneLaw h m.kept (leg_at s p l) k
     read_gone p l k f e gone =
         let D : Type 0 = GoneLaw h m.kept (leg_at s p l) k in
-        let P : Outcome ℕ → Type 0 = IfGone D in
-        if_gone D (step rules store.depth (call.Read p l k) s) f e gone
+        let IfGone : EngineFault → Type 0 = λ g. g.fault.refusal ≡ VersionGone → D in
+        let P : Outcome ℕ → Type 0 = IfRefused IfGone in
+        if_refused IfGone (step rules store.depth (call.Read p l k) s) f e
         (at_check P _ _ _ (λ clash. absurd (grind arith)) (λ range.
         at_open_leg P _ l _ _ (λ clash. absurd (grind arith)) (λ chain leg here is_open.
         at_else P _ _ _ (λ _ _. tt) (λ _.
@@ -73,3 +65,4 @@ module _
           dropped = subst (λ n. Has (n.kept k) lost.0 → ⊥) sound.same_store lost.2;
         })
         (λ r _. tt))))))))
+        gone

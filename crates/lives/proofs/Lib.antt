@@ -13,4 +13,5 @@ pub mod CallProofs
 pub mod CommitProofs
 pub mod GoneProofs
 pub mod LifeProofs
+pub mod StoreRefusalProofs
 pub mod ExampleProofs

@@ -205,7 +205,7 @@ module _ (parts : LawfulParts) (store : NewStore) where
       }
 
   -- any life that is as drawn
-  drawn_sound : (life : Life) → AsDrawn rules store life → LifeSound rules limits store life
+  pub drawn_sound : (life : Life) → AsDrawn rules store life → LifeSound rules limits store life
   drawn_sound [] drawn = life_new
   drawn_sound (e ∷ before) drawn = life_on before (drawn_sound before drawn.1) e drawn.0
 
@@ -250,7 +250,7 @@ module _ (parts : LawfulParts) (store : NewStore) where
       }
 
   -- a life by its calls is as drawn
-  calls_drawn :
+  pub calls_drawn :
       (before : Life) (calls : List Call) → AsDrawn rules store before →
       AsDrawn rules store (life_from rules store (engine_after rules store before) before calls)
   calls_drawn before [] drawn = drawn
@@ -272,9 +272,9 @@ pub rests_on_laws : RestsOnLaws
 rests_on_laws parts =
     record { by_calls = λ store calls. calls_lawful parts store calls; one_more_call = λ store. one_more parts store }
 
-pub the_rules_lawful : Lawful the_rules
-the_rules_lawful =
-    rests_on_laws (record {
+abbrev pub the_parts : LawfulParts
+the_parts =
+    record {
       caches = the_caches;
       cache_laws = the_caches_lawful;
       timestamps = issued;
@@ -283,4 +283,7 @@ the_rules_lawful =
       write_set_laws = the_write_sets_lawful;
       limits = the_limits;
       limit_laws = the_limits_lawful;
-    })
+    }
+
+pub the_rules_lawful : Lawful the_rules
+the_rules_lawful = rests_on_laws the_parts

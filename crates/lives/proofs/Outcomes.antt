@@ -1,10 +1,10 @@
 -- Any statement about what comes of a call, taken apart as the step is built: one rule for each thing that a step is built
 -- from, with what is known where the step goes on.
-use Rattle.std.proofs.Common.{◌≡◌, ℕ, Bool, true, Some, None, Ok, Err, Option, Result, refl}
+use Rattle.std.proofs.Common.{◌≡◌, ℕ, Bool, true, Some, None, Ok, Err, Option, Result, refl, sym, subst, arith}
 use Rattle.std.proofs.lemmas.Bool.{cond_both}
 use Rattle.snapshot.specs.declared.fault.EngineFault.{EngineFault}
 use Rattle.lives.specs.Engines.{OpenLeg, LegState, unused, running, ended, Chain}
-use Rattle.lives.specs.Steps.{Outcome, refused, check, with_chain, with_open, with_open_leg, if_free, with_result, or_else}
+use Rattle.lives.specs.Steps.{Outcome, refused, accepted, answer_in, check, with_chain, with_open, with_open_leg, if_free, with_result, or_else}
 
 module _ {X : Type 0} (P : Outcome X → Type 0) where
   pub at_check : (ok : Bool) (f : EngineFault) (next : Outcome X) → P (refused f) → (ok ≡ true → P next) → P (check ok f next)
@@ -51,3 +51,13 @@ module _ {X : Type 0} (P : Outcome X → Type 0) where
   unfolding or_else
   at_else None found next on out = out refl
   at_else (Some y) found next on out = on y refl
+
+-- what is so of the fault, if a call is refused
+abbrev pub IfRefused : {X : Type 0} → (EngineFault → Type 0) → Outcome X → Type 0
+IfRefused P (refused f) = P f
+IfRefused P (accepted x s) = Unit {0}
+
+pub if_refused :
+    {X : Type 0} (P : EngineFault → Type 0) (o : Outcome X) (f : EngineFault) → Err f ≡ answer_in o → IfRefused P o → P f
+if_refused P (refused g) f e h = let same : f ≡ g = cc in subst P (sym same) h
+if_refused P (accepted x s) f e h = absurd (grind arith)

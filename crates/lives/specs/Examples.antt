@@ -14,7 +14,7 @@ use Rattle.snapshot.specs.declared.fault.Refusal.TheVariants.{VersionGone}
 use Rattle.snapshot.specs.declared.interval.Interval.{Interval}
 use Rattle.store.specs.Meaning.{Meaning, issued, version_of, version_answer, question_fault}
 use Rattle.lives.specs.Law.{ValueAt, AccountLaw, GoneLaw, leg_at, LawOfLives, Lawful}
-use Rattle.lives.specs.Lives.{event, Life, NewStore, engine_after, life_of, history_of, store_after, value_read, told_of}
+use Rattle.lives.specs.Lives.{event, Life, NewStore, new_table, engine_after, life_of, history_of, store_after, value_read, told_of}
 use Rattle.lives.specs.Rules.{Rules, the_caches, the_write_sets, the_limits, the_rules}
 use Rattle.lives.specs.declared.calls.Call.{Call}
 use Rattle.lives.specs.declared.calls.Call.TheVariants as call
@@ -61,7 +61,7 @@ pruned = two_commits_and_a_read ++ (split_and_joined ++ (call.Prune 30 ∷ []))
 
 -- a table of 1,024 records
 abbrev pub table : NewStore
-table = record { depth = 16; not_none = lit≤ tt; capacity = 1024; room = lit≤ tt }
+table = new_table 1024 (lit≤ tt)
 
 -- what all three readings agree on is time 20: the zone was 5 and the set record 3
 abbrev pub break_in_account : Account

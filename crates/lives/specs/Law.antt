@@ -1,4 +1,5 @@
--- The law of lives: what a committed chain has read was true together, at every time of its account's interval.
+-- The law of lives: what a committed chain has read outside its own writes was true together, at every time of its account's
+-- interval.
 use Rattle.std.specs.Prelude.{◌≡◌, ℕ, ◌<◌, ◌≤◌, true, List, ◌∷◌, length, Some, None, Ok, Err, Option}
 use Rattle.std.specs.List.{ContainsAt as Has, AllByRecursion}
 use Rattle.snapshot.specs.Accounts.{Account, lawful}

@@ -9,4 +9,5 @@ pub mod Steps
 pub mod Lives
 pub mod CacheShape
 pub mod Law
+pub mod StoreRefusals
 pub mod Examples

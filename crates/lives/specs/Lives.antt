@@ -2,6 +2,7 @@
 -- of it, and of the chain at a place what its legs have written and what it has read outside its own writes.
 use Rattle.std.specs.Prelude.{◌≡◌, ℕ, ◌≤◌, List, [], ◌∷◌, ◌++◌, Some, None, Ok, Err, Option, Result}
 use Rattle.std.specs.Option.{option_or}
+use Rattle.std.proofs.Common.{lit≤}
 use Rattle.snapshot.specs.Limits.{keys}
 use Rattle.snapshot.specs.declared.account.Write.{Write}
 use Rattle.snapshot.specs.declared.fault.EngineFault.{EngineFault}
@@ -40,6 +41,13 @@ pub record NewStore : Type 0 where
   pub not_none : 1 ≤ depth
   pub capacity : ℕ
   pub room : keys ≤ capacity
+
+-- a new table of this capacity, and a new newest store
+abbrev pub new_table : (capacity : ℕ) → keys ≤ capacity → NewStore
+new_table capacity room = record { depth = 16; not_none = lit≤ tt; capacity = capacity; room = room }
+
+abbrev pub new_newest : NewStore
+new_newest = record { depth = 1; not_none = lit≤ tt; capacity = keys; room = lit≤ tt }
 
 -- What the rules draw from the calls.
 

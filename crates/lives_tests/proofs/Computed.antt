@@ -4,7 +4,7 @@ use Rattle.store.specs.Meaning.{versions_below}
 use Rattle.lives.specs.Steps.{check, with_chain, with_open, with_open_leg, if_free, with_result, or_else}
 use Rattle.lives_tests.specs.Answered.{Agrees}
 use Rattle.lives_tests.specs.Vectors.{AllAgree}
-use Rattle.lives_tests.specs.Vectors.AtLimits.{thirty_two_readings, eight_keys, last_timestamp, sixteen_versions, forty_notices, ninth_entry}
+use Rattle.lives_tests.specs.Vectors.AtLimits.{thirty_two_readings, eight_keys, last_timestamp, more_than_the_depth, sixty_four_notices, ninth_entry}
 use Rattle.lives_tests.specs.Vectors.Mixed1.{mixed_01, mixed_02, mixed_03, mixed_04, mixed_05}
 use Rattle.lives_tests.specs.Vectors.Mixed2.{mixed_06, mixed_07, mixed_08, mixed_09, mixed_10}
 use Rattle.lives_tests.specs.Vectors.Mixed3.{mixed_11, mixed_12, mixed_13, mixed_14}
@@ -21,13 +21,13 @@ agrees_last_timestamp : Agrees last_timestamp
 unfolding check with_chain with_open with_open_leg if_free with_result or_else versions_below
 agrees_last_timestamp = refl
 
-agrees_sixteen_versions : Agrees sixteen_versions
+agrees_more_than_the_depth : Agrees more_than_the_depth
 unfolding check with_chain with_open with_open_leg if_free with_result or_else versions_below
-agrees_sixteen_versions = refl
+agrees_more_than_the_depth = refl
 
-agrees_forty_notices : Agrees forty_notices
+agrees_sixty_four_notices : Agrees sixty_four_notices
 unfolding check with_chain with_open with_open_leg if_free with_result or_else versions_below
-agrees_forty_notices = refl
+agrees_sixty_four_notices = refl
 
 agrees_ninth_entry : Agrees ninth_entry
 unfolding check with_chain with_open with_open_leg if_free with_result or_else versions_below
@@ -91,4 +91,4 @@ agrees_mixed_14 = refl
 
 pub all_agree : AllAgree
 all_agree =
-    (agrees_thirty_two_readings, (agrees_eight_keys, (agrees_last_timestamp, (agrees_sixteen_versions, (agrees_forty_notices, (agrees_ninth_entry, (agrees_mixed_01, (agrees_mixed_02, (agrees_mixed_03, (agrees_mixed_04, (agrees_mixed_05, (agrees_mixed_06, (agrees_mixed_07, (agrees_mixed_08, (agrees_mixed_09, (agrees_mixed_10, (agrees_mixed_11, (agrees_mixed_12, (agrees_mixed_13, (agrees_mixed_14, tt))))))))))))))))))))
+    (agrees_thirty_two_readings, (agrees_eight_keys, (agrees_last_timestamp, (agrees_more_than_the_depth, (agrees_sixty_four_notices, (agrees_ninth_entry, (agrees_mixed_01, (agrees_mixed_02, (agrees_mixed_03, (agrees_mixed_04, (agrees_mixed_05, (agrees_mixed_06, (agrees_mixed_07, (agrees_mixed_08, (agrees_mixed_09, (agrees_mixed_10, (agrees_mixed_11, (agrees_mixed_12, (agrees_mixed_13, (agrees_mixed_14, tt))))))))))))))))))))

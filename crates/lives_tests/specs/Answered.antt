@@ -1,6 +1,5 @@
 -- Lives as another implementation of the rules answered them, line by line, and what it is for the model to agree.
-use Rattle.std.specs.Prelude.{◌≡◌, ℕ, ◌≤◌, List, [], ◌∷◌, map, Ok, Err, Result}
-use Rattle.std.proofs.Common.{lit≤}
+use Rattle.std.specs.Prelude.{◌≡◌, ℕ, List, [], ◌∷◌, map, Ok, Err, Result}
 use Rattle.snapshot.specs.Refusals.{number_of}
 use Rattle.snapshot.specs.declared.account.ChainReading.{ChainReading}
 use Rattle.snapshot.specs.declared.account.Write.{Write}
@@ -55,10 +54,3 @@ pub record Vector : Type 0 where
 -- by the rules the life of these calls has the same replies
 abbrev pub Agrees : Vector → Type 0
 Agrees v = replies_in (life_of the_rules v.over (map (λ l. l.0) v.lines)) [] ≡ map (λ l. l.1) v.lines
-
--- a new table of this capacity, and a new newest store
-abbrev pub table : (capacity : ℕ) → 64 ≤ capacity → NewStore
-table capacity room = record { depth = 16; not_none = lit≤ tt; capacity = capacity; room = room }
-
-abbrev pub newest : NewStore
-newest = record { depth = 1; not_none = lit≤ tt; capacity = 64; room = lit≤ tt }

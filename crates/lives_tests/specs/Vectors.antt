@@ -2,7 +2,7 @@
 use Rattle.std.specs.Prelude.{List, [], ◌∷◌}
 use Rattle.std.specs.List.{AllByRecursion}
 use Rattle.lives_tests.specs.Answered.{Vector, Agrees}
-use Rattle.lives_tests.specs.Vectors.AtLimits.{thirty_two_readings, eight_keys, last_timestamp, sixteen_versions, forty_notices, ninth_entry}
+use Rattle.lives_tests.specs.Vectors.AtLimits.{thirty_two_readings, eight_keys, last_timestamp, more_than_the_depth, sixty_four_notices, ninth_entry}
 use Rattle.lives_tests.specs.Vectors.Mixed1.{mixed_01, mixed_02, mixed_03, mixed_04, mixed_05}
 use Rattle.lives_tests.specs.Vectors.Mixed2.{mixed_06, mixed_07, mixed_08, mixed_09, mixed_10}
 use Rattle.lives_tests.specs.Vectors.Mixed3.{mixed_11, mixed_12, mixed_13, mixed_14}
@@ -16,8 +16,8 @@ vectors =
     thirty_two_readings
     ∷ eight_keys
     ∷ last_timestamp
-    ∷ sixteen_versions
-    ∷ forty_notices
+    ∷ more_than_the_depth
+    ∷ sixty_four_notices
     ∷ ninth_entry
     ∷ mixed_01
     ∷ mixed_02

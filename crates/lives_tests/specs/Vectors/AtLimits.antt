@@ -3,14 +3,15 @@ use Rattle.std.specs.Prelude.{[], ◌∷◌}
 use Rattle.std.proofs.Common.{lit≤}
 use Rattle.snapshot.specs.declared.fault.Layer.TheVariants as layer
 use Rattle.lives.specs.Examples.{read, wrote}
+use Rattle.lives.specs.Lives.{new_table}
 use Rattle.lives.specs.declared.calls.Call.TheVariants as call
-use Rattle.lives_tests.specs.Answered.{Vector, table, committed, leg, legs, value, notices, done, refused}
+use Rattle.lives_tests.specs.Answered.{Vector, committed, leg, legs, value, notices, done, refused}
 
 -- a chain's thirty-third reading is refused
 abbrev pub thirty_two_readings : Vector
 thirty_two_readings =
     record {
-      over = table 1024 (lit≤ tt);
+      over = new_table 1024 (lit≤ tt);
       lines =
           (call.Begin 0 0, leg 0)
           ∷ (call.Read 0 0 0, value 0)
@@ -73,7 +74,7 @@ thirty_two_readings =
 abbrev pub eight_keys : Vector
 eight_keys =
     record {
-      over = table 1024 (lit≤ tt);
+      over = new_table 1024 (lit≤ tt);
       lines =
           (call.Begin 1 2, leg 0)
           ∷ (call.Fork 1 0 3 4, legs 1 2)
@@ -106,7 +107,7 @@ eight_keys =
 abbrev pub last_timestamp : Vector
 last_timestamp =
     record {
-      over = table 1024 (lit≤ tt);
+      over = new_table 1024 (lit≤ tt);
       lines =
           (call.Begin 0 0, leg 0)
           ∷ (call.Write 0 0 1 1, done)
@@ -137,11 +138,11 @@ last_timestamp =
           ∷ [];
     }
 
--- a seventeenth version of a key, after which an old interval finds its version gone
-abbrev pub sixteen_versions : Vector
-sixteen_versions =
+-- more versions of a key than the depth, after which an old interval finds its version gone
+abbrev pub more_than_the_depth : Vector
+more_than_the_depth =
     record {
-      over = table 1024 (lit≤ tt);
+      over = new_table 1024 (lit≤ tt);
       lines =
           (call.Begin 3 1, leg 0)
           ∷ (call.Read 3 0 0, value 0)
@@ -208,11 +209,11 @@ sixteen_versions =
           ∷ [];
     }
 
--- every worker holds eight keys, and of forty or more notices thirty-two wait
-abbrev pub forty_notices : Vector
-forty_notices =
+-- every worker holds eight keys, and of the sixty-four notices of one commit thirty-two wait
+abbrev pub sixty_four_notices : Vector
+sixty_four_notices =
     record {
-      over = table 1024 (lit≤ tt);
+      over = new_table 1024 (lit≤ tt);
       lines =
           (call.Begin 0 0, leg 0)
           ∷ (call.Read 0 0 0, value 0)
@@ -381,11 +382,11 @@ forty_notices =
           ∷ [];
     }
 
--- a ninth key in a cache, also after a hit changed the order of use
+-- a ninth key takes the place of the entry used longest ago, which a hit has made another than the first; the notices tell which
 abbrev pub ninth_entry : Vector
 ninth_entry =
     record {
-      over = table 1024 (lit≤ tt);
+      over = new_table 1024 (lit≤ tt);
       lines =
           (call.Begin 0 0, leg 0)
           ∷ (call.Read 0 0 0, value 0)

@@ -3,14 +3,15 @@ use Rattle.std.specs.Prelude.{[], ◌∷◌}
 use Rattle.std.proofs.Common.{lit≤}
 use Rattle.snapshot.specs.declared.fault.Layer.TheVariants as layer
 use Rattle.lives.specs.Examples.{read, wrote}
+use Rattle.lives.specs.Lives.{new_table}
 use Rattle.lives.specs.declared.calls.Call.TheVariants as call
-use Rattle.lives_tests.specs.Answered.{Vector, table, committed, leg, legs, value, notices, done, refused}
+use Rattle.lives_tests.specs.Answered.{Vector, committed, leg, legs, value, notices, done, refused}
 
 -- 88 calls over a table of 1024 records: several chains at once; refused with 1, 2, 3, 10, 12, 15 and 16
 abbrev pub mixed_01 : Vector
 mixed_01 =
     record {
-      over = table 1024 (lit≤ tt);
+      over = new_table 1024 (lit≤ tt);
       lines =
           (call.Begin 1 0, leg 0)
           ∷ (call.Write 1 0 1 68, done)
@@ -107,7 +108,7 @@ mixed_01 =
 abbrev pub mixed_02 : Vector
 mixed_02 =
     record {
-      over = table 70 (lit≤ tt);
+      over = new_table 70 (lit≤ tt);
       lines =
           (call.Prune 18446744073709551615, done)
           ∷ (call.Begin 0 2, leg 0)
@@ -203,7 +204,7 @@ mixed_02 =
 abbrev pub mixed_03 : Vector
 mixed_03 =
     record {
-      over = table 1024 (lit≤ tt);
+      over = new_table 1024 (lit≤ tt);
       lines =
           (call.Begin 0 2, leg 0)
           ∷ (call.Read 0 0 5, value 0)
@@ -298,7 +299,7 @@ mixed_03 =
 abbrev pub mixed_04 : Vector
 mixed_04 =
     record {
-      over = table 1024 (lit≤ tt);
+      over = new_table 1024 (lit≤ tt);
       lines =
           (call.Begin 0 0, leg 0)
           ∷ (call.Fork 0 0 2 2, legs 1 2)
@@ -395,7 +396,7 @@ mixed_04 =
 abbrev pub mixed_05 : Vector
 mixed_05 =
     record {
-      over = table 1024 (lit≤ tt);
+      over = new_table 1024 (lit≤ tt);
       lines =
           (call.Begin 0 0, leg 0)
           ∷ (call.Read 0 0 3, value 0)

@@ -3,14 +3,15 @@ use Rattle.std.specs.Prelude.{[], ◌∷◌}
 use Rattle.std.proofs.Common.{lit≤}
 use Rattle.snapshot.specs.declared.fault.Layer.TheVariants as layer
 use Rattle.lives.specs.Examples.{read, wrote}
+use Rattle.lives.specs.Lives.{new_table, new_newest}
 use Rattle.lives.specs.declared.calls.Call.TheVariants as call
-use Rattle.lives_tests.specs.Answered.{Vector, table, newest, committed, leg, legs, value, notices, done, refused}
+use Rattle.lives_tests.specs.Answered.{Vector, committed, leg, legs, value, notices, done, refused}
 
 -- 87 calls over a newest store: old intervals; refused with 1, 3, 4, 6, 9, 15 and 16
 abbrev pub mixed_06 : Vector
 mixed_06 =
     record {
-      over = newest;
+      over = new_newest;
       lines =
           (call.Begin 3 2, leg 0)
           ∷ (call.Commit 3 0 0 0 0, committed 0 281474976710656 0 [] [])
@@ -106,7 +107,7 @@ mixed_06 =
 abbrev pub mixed_07 : Vector
 mixed_07 =
     record {
-      over = newest;
+      over = new_newest;
       lines =
           (call.Prune 0, done)
           ∷ (call.Prune 0, done)
@@ -217,7 +218,7 @@ mixed_07 =
 abbrev pub mixed_08 : Vector
 mixed_08 =
     record {
-      over = table 1024 (lit≤ tt);
+      over = new_table 1024 (lit≤ tt);
       lines =
           (call.Begin 3 3, leg 0)
           ∷ (call.Read 3 0 10, value 0)
@@ -323,7 +324,7 @@ mixed_08 =
 abbrev pub mixed_09 : Vector
 mixed_09 =
     record {
-      over = table 66 (lit≤ tt);
+      over = new_table 66 (lit≤ tt);
       lines =
           (call.Prune 0, done)
           ∷ (call.Prune 3, done)
@@ -406,7 +407,7 @@ mixed_09 =
 abbrev pub mixed_10 : Vector
 mixed_10 =
     record {
-      over = table 1024 (lit≤ tt);
+      over = new_table 1024 (lit≤ tt);
       lines =
           (call.Begin 1 0, leg 0)
           ∷ (call.Hand 1 0 4, leg 1)

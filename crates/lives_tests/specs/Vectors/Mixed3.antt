@@ -3,14 +3,15 @@ use Rattle.std.specs.Prelude.{[], ◌∷◌}
 use Rattle.std.proofs.Common.{lit≤}
 use Rattle.snapshot.specs.declared.fault.Layer.TheVariants as layer
 use Rattle.lives.specs.Examples.{read, wrote}
+use Rattle.lives.specs.Lives.{new_table}
 use Rattle.lives.specs.declared.calls.Call.TheVariants as call
-use Rattle.lives_tests.specs.Answered.{Vector, table, committed, leg, legs, value, notices, done, refused}
+use Rattle.lives_tests.specs.Answered.{Vector, committed, leg, legs, value, notices, done, refused}
 
 -- 84 calls over a table of 128 records: full caches and write sets; refused with 1, 3, 4, 10 and 16
 abbrev pub mixed_11 : Vector
 mixed_11 =
     record {
-      over = table 128 (lit≤ tt);
+      over = new_table 128 (lit≤ tt);
       lines =
           (call.Count, notices 0 0)
           ∷ (call.Prune 0, done)
@@ -109,7 +110,7 @@ mixed_11 =
 abbrev pub mixed_12 : Vector
 mixed_12 =
     record {
-      over = table 1024 (lit≤ tt);
+      over = new_table 1024 (lit≤ tt);
       lines =
           (call.Begin 1 2, leg 0)
           ∷ (call.Write 1 0 1 2147483648, done)
@@ -217,7 +218,7 @@ mixed_12 =
 abbrev pub mixed_13 : Vector
 mixed_13 =
     record {
-      over = table 128 (lit≤ tt);
+      over = new_table 128 (lit≤ tt);
       lines =
           (call.Count, notices 0 0)
           ∷ (call.Begin 3 5, leg 0)
@@ -392,7 +393,7 @@ mixed_13 =
 abbrev pub mixed_14 : Vector
 mixed_14 =
     record {
-      over = table 1024 (lit≤ tt);
+      over = new_table 1024 (lit≤ tt);
       lines =
           (call.Begin 0 3, leg 0)
           ∷ (call.Read 0 0 9, value 0)

@@ -2,6 +2,7 @@
 use Rattle.lives.proofs.CacheShapeProofs.{cache_shape}
 use Rattle.lives.proofs.LifeProofs.{rests_on_laws, the_rules_lawful}
 use Rattle.lives.proofs.ShapedLives.{shaped_in_every_life}
+use Rattle.lives.proofs.StoreRefusalProofs.{refusals_in_every_life}
 use Rattle.lives.proofs.law.law_of_lives.Goals as goal
 
 pub returns-clause-lawful : goal.returns-clause-lawful
@@ -15,3 +16,6 @@ returns-clause-caches c = cache_shape
 
 pub returns-clause-shaped : goal.returns-clause-shaped
 returns-clause-shaped c = shaped_in_every_life
+
+pub returns-clause-refusals : goal.returns-clause-refusals
+returns-clause-refusals c = refusals_in_every_life
