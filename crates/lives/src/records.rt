@@ -1,5 +1,8 @@
 // The records that an engine keeps in its caches, its chains and its list of notices.
+ghost use Rattle.std.specs.Prelude.{◌==◌, ◌&&◌};
+
 use snapshot::account::{ChainReading, Reading};
+use snapshot::find::Keyed;
 
 // What a worker's cache holds of a key.
 #[derive(Clone, Copy)]
@@ -21,4 +24,29 @@ pub struct Notice {
     pub worker: u8,
     pub key: u8,
     pub reading: Reading,
+}
+
+// An entry is found by its key.
+impl Keyed<u8> for CacheEntry {
+    ghost named = { λ e k. (e.key == k) };
+
+    fn has_key(&self, key: u8) -> bool {
+        self.key == key
+    }
+}
+
+// The leg that made a reading, and the key that it read.
+#[derive(Clone, Copy)]
+pub struct LegAndKey {
+    pub leg: u8,
+    pub key: u8,
+}
+
+// A chain's reading is found by both.
+impl Keyed<LegAndKey> for LegReading {
+    ghost named = { λ r made. (r.leg == made.leg && r.made.key == made.key) };
+
+    fn has_key(&self, made: LegAndKey) -> bool {
+        self.leg == made.leg && self.made.key == made.key
+    }
 }

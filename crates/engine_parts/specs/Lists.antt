@@ -1,0 +1,13 @@
+-- What a list of bounded length holds, and what stands in an array, as the model tells it.
+use Rattle.std.specs.Prelude.{ℕ, zero, suc, List, [], ◌∷◌, take}
+use Rattle.engine_parts.specs.declared.list.BoundedList.{BoundedList}
+
+-- the entries, from the first to the last
+abbrev pub entries : {T : Type 0} {N : ℕ} → BoundedList T N → List T
+entries l = take l.len l.items
+
+-- what f makes of the item at a place, and past the end d
+abbrev pub item_at : {X Y : Type 0} → (X → Y) → Y → List X → ℕ → Y
+item_at f d [] i = d
+item_at f d (x ∷ xs) zero = f x
+item_at f d (x ∷ xs) (suc i) = item_at f d xs i

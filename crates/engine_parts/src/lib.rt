@@ -1,0 +1,5 @@
+// What an engine is made of.
+#![tactic(auto)]
+
+pub mod cache;
+pub mod list;

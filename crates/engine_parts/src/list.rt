@@ -1,0 +1,120 @@
+// A list of at most `N` entries, which lie in the value itself: no call on it asks for memory.
+ghost use Rattle.std.specs.Prelude.{◌≡◌, ◌≤◌, ◌<◌, ◌+◌, true, false, [], ◌∷◌, ◌++◌, length, nat_le, nat_lt, if◌then◌else◌, slice_get, slice_set, remove, insert};
+ghost use Rattle.std.specs.List.{find};
+ghost use Rattle.engine_parts.specs.Lists.{entries};
+
+use snapshot::find::{Keyed, find};
+
+#[derive(Clone, Copy)]
+pub struct BoundedList<T, const N: usize> {
+    items: [T; N],
+    len: usize,
+}
+
+impl<T: Copy, const N: usize> BoundedList<T, N> {
+    // An empty list. What is passed stands where nothing is listed.
+    pub fn empty(blank: T) -> BoundedList<T, N>
+        ensures { entries result ≡ [] }
+    {
+        BoundedList {
+            items: [blank; N],
+            len: 0,
+        }
+    }
+
+    // How many entries there are.
+    pub fn len(&self) -> usize
+        ensures value { result ≡ length (entries self.now) }
+        ensures fits { result ≤ N }
+    {
+        let all = &self.items[..];
+        self.len.min(all.len())
+    }
+
+    // The entries, from the first to the last.
+    pub fn as_slice(&self) -> &[T]
+        ensures value { result.now ≡ entries self.now }
+        ensures fits { length result.now ≤ N }
+    {
+        let len = self.len();
+        let all = &self.items[..];
+        &all[..len]
+    }
+
+    // Is there room for no more?
+    pub fn is_full(&self) -> bool
+        ensures { result ≡ nat_le N (length (entries self.now)) }
+    {
+        let all = &self.items[..];
+        all.len() <= self.len
+    }
+
+    // The entry at this place, if there is one.
+    pub fn get(&self, place: usize) -> Option<T>
+        ensures { result ≡ slice_get (entries self.now) place }
+    {
+        self.as_slice().get(place).copied()
+    }
+
+    // The first entry with this key, if there is one.
+    pub fn with_key<K: Copy>(&self, key: K) -> Option<T>
+    where
+        T: Keyed<K>,
+        ensures { result ≡ find (λ x. T.named x key) (entries self.now) }
+    {
+        let place = find(self.as_slice(), key)?;
+        self.get(place)
+    }
+
+    // Adds an entry at the end, and answers whether there was room.
+    pub fn push(&mut self, entry: T) -> bool
+        ensures room { result ≡ nat_lt (length (entries self.old)) N }
+        ensures after { entries self.new ≡ (if result then entries self.old ++ entry ∷ [] else entries self.old) }
+        ensures unchanged { result ≡ false → self.new ≡ self.old }
+    {
+        let len = self.len();
+        let room = !self.is_full();
+        if room {
+            self.items[len] = entry;
+            self.len = len + 1;
+        }
+        room
+    }
+
+    // Puts an entry in the place of another; past the end it has no effect.
+    pub fn put(&mut self, place: usize, entry: T)
+        ensures { entries self.new ≡ slice_set (entries self.old) place entry }
+    {
+        if place < self.len() {
+            self.items[place] = entry;
+        }
+    }
+
+    // Takes out the entry at this place, and later ones move up; past the end it has no effect.
+    pub fn remove(&mut self, place: usize)
+        ensures { entries self.new ≡ remove (entries self.old) place }
+    {
+        let len = self.len();
+        if place < len {
+            self.items.copy_within(place + 1..len, place);
+            self.len = len - 1;
+        }
+    }
+
+    // Puts an entry before the one at this place, or at the end where there is none, and answers whether there was room.
+    pub fn insert(&mut self, place: usize, entry: T) -> bool
+        ensures room { result ≡ nat_lt (length (entries self.old)) N }
+        ensures after { entries self.new ≡ (if result then insert (entries self.old) place entry else entries self.old) }
+        ensures unchanged { result ≡ false → self.new ≡ self.old }
+    {
+        let len = self.len();
+        let room = !self.is_full();
+        if room {
+            let place = place.min(len);
+            self.items.copy_within(place..len, place + 1);
+            self.items[place] = entry;
+            self.len = len + 1;
+        }
+        room
+    }
+}
