@@ -1,1 +1,2 @@
 pub mod ListProofs
+pub mod CacheLemmas

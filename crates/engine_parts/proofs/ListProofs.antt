@@ -89,3 +89,8 @@ module _ {X : Type 0} where
 
   pub leads_to_it : (test : X → Bool) (xs : List X) (i : ℕ) → first_with test xs ≡ Some i → slice_get xs i ≡ find test xs
   leads_to_it test xs i e = ap (option_and_then (slice_get xs)) (sym e) ∙ found test xs
+
+  pub something_there : (xs : List X) (i : ℕ) → i < length xs → slice_get xs i ≡ None → ⊥
+  something_there [] i lt e = omega arith
+  something_there (x ∷ xs) zero lt e = cc
+  something_there (x ∷ xs) (suc i) lt e = something_there xs i (omega arith) e

@@ -1,7 +1,7 @@
 // A worker's cache: at most eight entries, one for a key, in the order of their use.
-ghost use Rattle.std.specs.Prelude.{◌≡◌, [], ◌≤◌, length};
+ghost use Rattle.std.specs.Prelude.{◌≡◌, [], ◌∷◌, ◌++◌, ◌≤◌, length};
 ghost use Rattle.engine_parts.specs.Parts.{cached};
-ghost use Rattle.lives.specs.Caches.{answering, used_latest, with_answer, with_notice, holds, look_up};
+ghost use Rattle.lives.specs.Caches as model;
 
 use crate::list::BoundedList;
 use lives::records::{CacheEntry, Notice};
@@ -24,6 +24,103 @@ impl Cache {
         Cache {
             entries: BoundedList::empty(NO_ENTRY),
         }
+    }
+
+    // The entry of a key, if there is one.
+    pub fn look_up(&self, key: u8) -> Option<CacheEntry>
+        ensures { result ≡ model.look_up key (cached self.now) }
+    {
+        self.entries.with_key(key)
+    }
+
+    // Has the worker an entry of this key?
+    pub fn holds(&self, key: u8) -> bool
+        ensures { result ≡ model.holds key (cached self.now) }
+    {
+        self.look_up(key).is_some()
+    }
+
+    // The entry that answers a read of the key on a leg with this interval: the key's entry, if it meets the interval.
+    pub fn answering(&self, interval: Interval, key: u8) -> Option<CacheEntry>
+        ensures { result ≡ model.answering interval key (cached self.now) }
+    {
+        let entry = self.look_up(key)?;
+        if interval.meets(entry.reading) {
+            Some(entry)
+        } else {
+            None
+        }
+    }
+
+    // An entry becomes the latest used, in the place of its key's; a ninth takes that of the entry used longest ago.
+    pub fn use_latest(&mut self, entry: CacheEntry)
+        ensures { cached self.new ≡ model.used_latest entry (cached self.old) }
+    {
+        self.take_out(entry.key);
+        self.add_latest(entry);
+    }
+
+    // After the store answered for a key at this time: the answer becomes the latest used entry, unless the key's entry is
+    // later than that time.
+    pub fn keep_answer(&mut self, time: u64, answer: CacheEntry)
+        ensures { cached self.new ≡ model.with_answer time answer (cached self.old) }
+    {
+        let later = match self.look_up(answer.key) {
+            Some(entry) => entry.reading.timestamp > time,
+            None => false,
+        };
+        if !later {
+            self.use_latest(answer);
+        }
+    }
+
+    // After a notice: the key's entry takes a later reading, or the larger promise of an equal one, and keeps its place in
+    // the order of use. Without an entry of the key there is no effect.
+    pub fn take_notice(&mut self, notice: Notice)
+        ensures { cached self.new ≡ model.with_notice notice (cached self.old) }
+    {
+        let Some(place) = find(self.entries.as_slice(), notice.key) else {
+            return;
+        };
+        if let Some(CacheEntry { key, reading }) = self.entries.get(place) {
+            let reading = noticed(notice.reading, reading);
+            self.entries.put(place, CacheEntry { key, reading });
+        }
+    }
+
+    // Takes out the entry of a key.
+    fn take_out(&mut self, key: u8)
+        ensures { cached self.new ≡ model.without key (cached self.old) }
+    {
+        if let Some(place) = find(self.entries.as_slice(), key) {
+            self.entries.remove(place);
+        }
+    }
+
+    // Adds an entry at the end, and where there are more than eight the first gives way.
+    fn add_latest(&mut self, entry: CacheEntry)
+        ensures { cached self.new ≡ model.last_eight (cached self.old ++ entry ∷ []) }
+    {
+        if self.entries.is_full() {
+            self.entries.remove(0);
+        }
+        let _ = self.entries.push(entry);
+    }
+}
+
+// What a notice makes of a reading.
+fn noticed(new: Reading, held: Reading) -> Reading
+    ensures { result ≡ model.noticed new held }
+{
+    if held.timestamp < new.timestamp {
+        new
+    } else if held.timestamp == new.timestamp {
+        Reading {
+            promise: held.promise.max(new.promise),
+            ..held
+        }
+    } else {
+        held
     }
 }
 
