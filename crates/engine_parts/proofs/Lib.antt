@@ -1,2 +1,5 @@
 pub mod ListProofs
 pub mod CacheLemmas
+pub mod ItemLemmas
+pub mod NoticeLemmas
+pub mod WriteSetLemmas

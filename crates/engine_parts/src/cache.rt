@@ -8,7 +8,10 @@ use lives::records::{CacheEntry, Notice};
 use snapshot::account::Reading;
 use snapshot::find::find;
 use snapshot::interval::Interval;
-use snapshot::limits::CACHE_KEYS;
+use snapshot::limits::{CACHE_KEYS, WORKERS};
+
+// How many caches there are: one for a worker.
+pub const CACHES: usize = WORKERS as usize;
 
 // The entries, the one used longest ago first.
 #[derive(Clone, Copy)]

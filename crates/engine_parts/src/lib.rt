@@ -3,3 +3,5 @@
 
 pub mod cache;
 pub mod list;
+pub mod notices;
+pub mod write_set;

@@ -11,7 +11,7 @@ returns-in_default c =
     let n = c.args.notice in
     let xs = cached c.args.self.now in
     let none : place_of n.key xs ≡ None =
-        ap (place_of n.key) (sym c.as_slice.ensures.value) ∙ sym c.find.ensures.value ∙ c.in_default.is in
+    ap (place_of n.key) (sym c.as_slice.ensures.value) ∙ sym c.find.ensures.value ∙ c.in_default.is in
     sym (nothing_told n xs none)
 
 pub returns-in-Some-get : goal.returns-in-Some-get
@@ -21,7 +21,7 @@ returns-in-Some-get c =
     let i = c.in-Some.place in
     let e = c.in-Some-get.field-0 in
     let there : place_of n.key xs ≡ Some i =
-        ap (place_of n.key) (sym c.as_slice.ensures.value) ∙ sym c.find.ensures.value ∙ c.in-Some.is in
+    ap (place_of n.key) (sym c.as_slice.ensures.value) ∙ sym c.find.ensures.value ∙ c.in-Some.is in
     let held : slice_get xs i ≡ Some e = sym c.get.ensures ∙ c.in-Some-get.is in
     let told = told_at n xs i e there held in
     cc

@@ -7,5 +7,5 @@ pub returns-in_default : goal.returns-in_default
 returns-in_default c =
     let k = c.args.key in
     let none : place_of k (cached c.args.self.now) ≡ None =
-        ap (place_of k) (sym c.as_slice.ensures.value) ∙ sym c.find.ensures.value ∙ c.in_default.is in
+    ap (place_of k) (sym c.as_slice.ensures.value) ∙ sym c.find.ensures.value ∙ c.in_default.is in
     sym (nothing_out k (cached c.args.self.now) none)

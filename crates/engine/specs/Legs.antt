@@ -1,0 +1,54 @@
+-- What a leg means in the model, and what a call does to one.
+use Rattle.std.specs.Prelude.{ℕ, List, Some, None, Ok, Err, Option, Result}
+use Rattle.snapshot.specs.Intervals.{narrowed, joined_or_refused}
+use Rattle.snapshot.specs.declared.account.Write.{Write}
+use Rattle.snapshot.specs.declared.fault.Refusal.{Refusal}
+use Rattle.snapshot.specs.declared.fault.Refusal.TheVariants.{NotOpen}
+use Rattle.engine_parts.specs.WriteSets.{written, fit_or_refused}
+use Rattle.lives.specs.Engines as model
+use Rattle.lives.specs.WriteSets.{with_write, united}
+use Rattle.engine.specs.Workers.{number_of}
+use Rattle.engine.specs.declared.leg.Leg.{Leg}
+use Rattle.engine.specs.declared.leg.Leg.TheVariants as leg
+use Rattle.engine.specs.declared.leg.LegCall.{LegCall}
+use Rattle.engine.specs.declared.leg.LegCall.TheVariants as call
+use Rattle.engine.specs.declared.leg.OpenLeg.{OpenLeg}
+
+abbrev pub open_leg_of : OpenLeg → model.OpenLeg
+open_leg_of o = record { worker = number_of o.worker; interval = o.interval; writes = written o.writes }
+
+abbrev pub leg_of : Leg → model.LegState
+leg_of leg.Unused = model.unused
+leg_of (leg.Open o) = model.running (open_leg_of o)
+leg_of leg.Ended = model.ended
+
+-- a leg that is open
+abbrev pub open_in : model.LegState → Option model.OpenLeg
+open_in model.unused = None
+open_in (model.running l) = Some l
+open_in model.ended = None
+
+-- an open leg after a write, if the write set can take it
+abbrev pub written_in : model.OpenLeg → Result (List Write) Refusal → Result (Unit {0}) Refusal × model.LegState
+written_in l (Ok ws) = (Ok tt, model.running (model.holding ws l))
+written_in l (Err r) = (Err r, model.running l)
+
+-- what becomes of a leg at a call: narrowed, written to or ended, or refused where it is not open
+abbrev pub changed : LegCall → model.LegState → Result (Unit {0}) Refusal × model.LegState
+changed c model.unused = (Err NotOpen, model.unused)
+changed (call.Narrow r) (model.running l) = (Ok tt, model.running (model.within (narrowed l.interval r) l))
+changed (call.Write w) (model.running l) = written_in l (fit_or_refused (with_write w l.writes))
+changed call.End (model.running l) = (Ok tt, model.ended)
+changed c model.ended = (Err NotOpen, model.ended)
+
+-- what is made of a result, or of its refusal
+abbrev pub on_result : {Y E Z : Type 0} → Result Y E → (E → Z) → (Y → Z) → Z
+on_result (Ok y) other next = next y
+on_result (Err r) other next = other r
+
+-- two legs joined at a worker, with the times of both and the writes of both
+abbrev pub joined_leg : ℕ → model.OpenLeg → model.OpenLeg → Result model.OpenLeg Refusal
+joined_leg w leg other =
+    on_result (joined_or_refused leg.interval other.interval) Err (λ i.
+    on_result (fit_or_refused (united leg.writes other.writes)) Err (λ ws.
+    Ok (record { worker = w; interval = i; writes = ws })))

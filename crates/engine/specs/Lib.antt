@@ -1,0 +1,5 @@
+pub mod Workers
+pub mod Legs
+pub mod Chains
+pub mod ChainCalls
+pub mod Drawn

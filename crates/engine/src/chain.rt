@@ -1,0 +1,281 @@
+// A chain: its legs by their numbers, and its readings in order.
+ghost use Rattle.std.specs.Prelude.{◌≡◌, ◌<◌, ◌+◌, length, OnErr, OnSome};
+ghost use Rattle.engine_parts.specs.Lists.{entries};
+ghost use Rattle.std.specs.Option.{option_map, option_copied};
+ghost use Rattle.lives.specs.Engines as model;
+ghost use Rattle.engine.specs.Legs.{open_leg_of, open_in, changed};
+ghost use Rattle.engine.specs.ChainCalls.{handed, forked, joined, wrote, looked_further, read_on};
+ghost use Rattle.engine.specs.Chains.{chain_of};
+ghost use Rattle.engine.specs.declared.leg.LegCall.TheVariants as call;
+ghost use Rattle.engine_parts.specs.Parts.{cached};
+ghost use Rattle.engine_parts.specs.WaitingNotices.{caches_of};
+ghost use Rattle.engine.specs.Workers.{number_of};
+
+use crate::leg::{Leg, LegCall, OpenLeg};
+use crate::named::Named;
+use crate::worker::Worker;
+use engine_parts::cache::{CACHES, Cache};
+use engine_parts::list::BoundedList;
+use engine_parts::write_set::WriteSet;
+use lives::records::{CacheEntry, LegAndKey, LegReading};
+use snapshot::account::{ChainReading, NO_READING, Reading, Write};
+use snapshot::fault::{EngineFault, Fault, Refusal};
+use snapshot::interval::Interval;
+use snapshot::limits::{CHAIN_READINGS, LEGS};
+use store::traits::Reads;
+
+// How many legs a chain can have.
+pub(crate) const ALL_LEGS: usize = LEGS as usize;
+
+// The legs, how many have been opened, and the readings of all of them.
+#[derive(Clone, Copy)]
+pub(crate) struct Chain {
+    legs: [Leg; ALL_LEGS],
+    opened: u8,
+    readings: BoundedList<LegReading, CHAIN_READINGS>,
+}
+
+impl Chain {
+    // A chain whose leg 0 has just been opened at a worker.
+    pub(crate) fn new(worker: Worker) -> Chain
+        ensures { chain_of result ≡ model.new_chain (number_of worker) }
+    {
+        let mut chain = Chain {
+            legs: [Leg::Unused; ALL_LEGS],
+            opened: 0,
+            readings: BoundedList::empty(NO_LEG_READING),
+        };
+        chain.open(OpenLeg {
+            worker,
+            interval: Interval::ALL_TIMES,
+            writes: WriteSet::empty(),
+        });
+        chain
+    }
+
+    // Ends a leg and opens the next at a worker, with the same interval and write set.
+    pub(crate) fn hand(&mut self, named: Named, worker: Worker) -> Result<u8, EngineFault>
+        ensures made { (result, chain_of self.new) ≡ handed named (number_of worker) (chain_of self.old) }
+        ensures unchanged { OnErr result (self.new ≡ self.old) }
+    {
+        let Some(open) = self.open_leg(named.leg) else {
+            return Err(named.refused(Refusal::NotOpen));
+        };
+        let next = OpenLeg { worker, ..*open };
+        if self.opened >= LEGS {
+            return Err(named.refused(Refusal::TooManyLegs));
+        }
+        let _ = self.change(named.leg, LegCall::End);
+        Ok(self.open(next))
+    }
+
+    // Ends a leg and opens two with its interval and write set, the first at the worker that is named first.
+    pub(crate) fn fork(
+        &mut self,
+        named: Named,
+        first: Worker,
+        second: Worker,
+    ) -> Result<(u8, u8), EngineFault>
+        ensures made { (result, chain_of self.new) ≡ forked named (number_of first) (number_of second) (chain_of self.old) }
+        ensures unchanged { OnErr result (self.new ≡ self.old) }
+    {
+        let Some(open) = self.open_leg(named.leg) else {
+            return Err(named.refused(Refusal::NotOpen));
+        };
+        let one = OpenLeg {
+            worker: first,
+            ..*open
+        };
+        let other = OpenLeg {
+            worker: second,
+            ..one
+        };
+        if self.opened >= LEGS - 1 {
+            return Err(named.refused(Refusal::TooManyLegs));
+        }
+        let _ = self.change(named.leg, LegCall::End);
+        let first_leg = self.open(one);
+        let second_leg = self.open(other);
+        Ok((first_leg, second_leg))
+    }
+
+    // Ends two legs and opens one at a worker, with the times of both and the writes of both; a key in both takes the value
+    // of the second.
+    pub(crate) fn join(
+        &mut self,
+        named: Named,
+        second: u8,
+        worker: Worker,
+    ) -> Result<u8, EngineFault>
+        ensures made { (result, chain_of self.new) ≡ joined named second (number_of worker) (chain_of self.old) }
+        ensures unchanged { OnErr result (self.new ≡ self.old) }
+    {
+        let Some(open) = self.open_leg(named.leg) else {
+            return Err(named.refused(Refusal::NotOpen));
+        };
+        let Some(other) = self.open_leg(second) else {
+            return Err(named.refused(Refusal::NotOpen));
+        };
+        if named.leg == second {
+            return Err(named.refused(Refusal::SameLeg));
+        }
+        if self.opened >= LEGS {
+            return Err(named.refused(Refusal::TooManyLegs));
+        }
+        match open.joined(other, worker) {
+            Ok(both) => {
+                let _ = self.change(named.leg, LegCall::End);
+                let _ = self.change(second, LegCall::End);
+                Ok(self.open(both))
+            }
+            Err(refusal) => Err(named.refused(refusal)),
+        }
+    }
+
+    // Sets a key's value in a leg's write set.
+    pub(crate) fn write(&mut self, named: Named, value: u32) -> Result<(), EngineFault>
+        ensures made { (result, chain_of self.new) ≡ wrote named value (chain_of self.old) }
+        ensures unchanged { OnErr result (self.new ≡ self.old) }
+    {
+        let Some(_) = self.open_leg(named.leg) else {
+            return Err(named.refused(Refusal::NotOpen));
+        };
+        let write = Write {
+            key: named.key,
+            value,
+        };
+        match self.change(named.leg, LegCall::Write { write }) {
+            Ok(()) => Ok(()),
+            Err(refusal) => Err(named.refused(refusal)),
+        }
+    }
+
+    // Answers a key's value from the leg's write set, or else from a reading that the leg has made, or else from the cache
+    // of its worker or from the store. Such an answer narrows the leg's interval and joins the chain's readings.
+    pub(crate) fn read<S: Reads>(
+        &mut self,
+        named: Named,
+        caches: &mut [Cache; CACHES],
+        store: &S,
+    ) -> Result<u32, EngineFault>
+        ensures made { (result, (chain_of self.new, caches_of caches.new)) ≡ read_on named (S.Reads.meaning store.now) (chain_of self.old, caches_of caches.old) }
+        ensures unchanged { OnErr result (self.new ≡ self.old) }
+        ensures caches_unchanged { OnErr result (caches.new ≡ caches.old) }
+    {
+        let Named { leg, key, .. } = named;
+        let Some(open) = self.open_leg(leg) else {
+            return Err(named.refused(Refusal::NotOpen));
+        };
+        if let Some(value) = open.writes.value_of(key) {
+            return Ok(value);
+        }
+        if let Some(own) = self.readings.with_key(LegAndKey { leg, key }) {
+            return Ok(own.made.reading.value);
+        }
+        if self.readings.is_full() {
+            return Err(named.refused(Refusal::ReadingsFull));
+        }
+        let OpenLeg {
+            worker,
+            interval,
+            ..
+        } = *open;
+        let worker = worker.number();
+        match look_further(&mut caches[worker as usize], store, interval, key) {
+            Ok(reading) => {
+                let made = ChainReading {
+                    worker,
+                    key,
+                    reading,
+                };
+                self.note(LegReading { leg, made });
+                Ok(reading.value)
+            }
+            Err(fault) => Err(named.refused_by_store(fault)),
+        }
+    }
+
+    // Narrows the leg that made a reading, and adds the reading to those of the chain.
+    fn note(&mut self, reading: LegReading)
+        requires within { reading.leg < 16 }
+        requires room { length (entries self.old.readings) < 32 }
+        ensures { chain_of self.new ≡ model.add_reading reading (model.with_leg reading.leg (changed (call.Narrow reading.made.reading) ((chain_of self.old).legs reading.leg)).1 (chain_of self.old)) }
+    {
+        let LegReading { leg, made } = reading;
+        let _ = self.change(
+            leg,
+            LegCall::Narrow {
+                reading: made.reading,
+            },
+        );
+        self.add_reading(reading);
+    }
+
+    // The leg of this number, if it is open.
+    fn open_leg(&self, leg: u8) -> Option<&OpenLeg>
+        ensures value { option_map open_leg_of (option_copied result) ≡ open_in ((chain_of self.now).legs leg) }
+        ensures within { OnSome result (leg < 16) }
+    {
+        self.legs.get(leg as usize)?.as_open()
+    }
+
+    // Changes a leg as the call says, or refuses as the leg does.
+    fn change(&mut self, leg: u8, call: LegCall) -> Result<(), Refusal>
+        requires { leg < 16 }
+        ensures answer { result ≡ (changed call ((chain_of self.old).legs leg)).0 }
+        ensures after { chain_of self.new ≡ model.with_leg leg (changed call ((chain_of self.old).legs leg)).1 (chain_of self.old) }
+        ensures opened { self.new.opened ≡ self.old.opened }
+        ensures unchanged { OnErr result (self.new ≡ self.old) }
+    {
+        self.legs[leg as usize].change(call)
+    }
+
+    // Opens the next leg, and answers its number.
+    fn open(&mut self, leg: OpenLeg) -> u8
+        requires { self.old.opened < 16 }
+        ensures number { result ≡ self.old.opened }
+        ensures after { chain_of self.new ≡ model.open_leg (open_leg_of leg) (chain_of self.old) }
+    {
+        let number = self.opened;
+        self.legs[number as usize] = Leg::Open(leg);
+        self.opened = number + 1;
+        number
+    }
+
+    // Adds a reading to those of the chain, if there is room.
+    fn add_reading(&mut self, reading: LegReading)
+        requires { length (entries self.old.readings) < 32 }
+        ensures { chain_of self.new ≡ model.add_reading reading (chain_of self.old) }
+    {
+        let _ = self.readings.push(reading);
+    }
+}
+
+// A reading of the key for a leg with this interval: from the cache, if its entry meets the interval, and else from the
+// store at the interval's high end. Either becomes the latest used entry, as far as the cache takes it.
+fn look_further<S: Reads>(
+    cache: &mut Cache,
+    store: &S,
+    interval: Interval,
+    key: u8,
+) -> Result<Reading, Fault>
+    ensures made { (result, cached cache.new) ≡ looked_further (S.Reads.meaning store.now) interval key (cached cache.old) }
+    ensures unchanged { OnErr result (cache.new ≡ cache.old) }
+{
+    match cache.answering(interval, key) {
+        Some(entry) => {
+            cache.use_latest(entry);
+            Ok(entry.reading)
+        }
+        None => {
+            let reading = store.version(key, interval.high)?;
+            cache.keep_answer(interval.high, CacheEntry { key, reading });
+            Ok(reading)
+        }
+    }
+}
+
+const NO_LEG_READING: LegReading = LegReading {
+    leg: 0,
+    made: NO_READING,
+};

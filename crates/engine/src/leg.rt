@@ -1,0 +1,83 @@
+// A leg of a chain: one function's run in it.
+ghost use Rattle.std.specs.Prelude.{◌≡◌, OnErr};
+ghost use Rattle.std.specs.Option.{option_map, option_copied};
+ghost use Rattle.std.specs.Result.{result_map_both};
+ghost use Rattle.engine.specs.Workers.{number_of};
+ghost use Rattle.engine.specs.Legs.{joined_leg, leg_of, open_leg_of, open_in, changed};
+
+use crate::worker::Worker;
+use engine_parts::write_set::WriteSet;
+use snapshot::account::{Reading, Write};
+use snapshot::fault::Refusal;
+use snapshot::interval::Interval;
+
+// A leg that is open: the worker it runs on, the times at which its readings are known to agree, and what it has written.
+#[derive(Clone, Copy)]
+pub(crate) struct OpenLeg {
+    pub(crate) worker: Worker,
+    pub(crate) interval: Interval,
+    pub(crate) writes: WriteSet,
+}
+
+#[derive(Clone, Copy)]
+pub(crate) enum Leg {
+    Unused,
+    Open(OpenLeg),
+    Ended,
+}
+
+impl OpenLeg {
+    // A leg at this worker with the times of both legs and the writes of both, where a key in both has the other's value.
+    // Refused where they have no time in common, or more than eight keys.
+    pub(crate) fn joined(&self, other: &OpenLeg, worker: Worker) -> Result<OpenLeg, Refusal>
+        ensures { result_map_both open_leg_of (λ r. r) result ≡ joined_leg (number_of worker) (open_leg_of self.now) (open_leg_of other.now) }
+    {
+        let interval = self.interval.join(other.interval)?;
+        let writes = self.writes.joined(&other.writes)?;
+        Ok(OpenLeg {
+            worker,
+            interval,
+            writes,
+        })
+    }
+}
+
+// What a call does to a leg that it names.
+#[derive(Clone, Copy)]
+pub(crate) enum LegCall {
+    Narrow { reading: Reading },
+    Write { write: Write },
+    End,
+}
+
+impl Leg {
+    // The leg, if it is open.
+    pub(crate) fn as_open(&self) -> Option<&OpenLeg>
+        ensures { option_map open_leg_of (option_copied result) ≡ open_in (leg_of self.now) }
+    {
+        match self {
+            Leg::Open(open) => Some(open),
+            Leg::Unused | Leg::Ended => None,
+        }
+    }
+
+    // What becomes of a leg at a call: it is narrowed, written to or ended, or refuses where it is not open.
+    // A leg that refuses stays as it is.
+    pub(crate) fn change(&mut self, call: LegCall) -> Result<(), Refusal>
+        ensures made { (result, leg_of self.new) ≡ changed call (leg_of self.old) }
+        ensures unchanged { OnErr result (self.new ≡ self.old) }
+    {
+        match (&mut *self, call) {
+            (Leg::Unused | Leg::Ended, _) => Err(Refusal::NotOpen),
+            (Leg::Open(open), LegCall::Narrow { reading }) => {
+                open.interval = open.interval.narrow(reading);
+                Ok(())
+            }
+            (Leg::Open(open), LegCall::Write { write }) => open.writes.write(write),
+            (Leg::Open(_), LegCall::End) => {
+                *self = Leg::Ended;
+                Ok(())
+            }
+        }
+    }
+}

@@ -1,0 +1,16 @@
+-- What a leg's write set means in the model, and that it takes eight writes at most.
+use Rattle.std.specs.Prelude.{if◌then◌else◌, List, length, Ok, Err, Result, nat_le}
+use Rattle.snapshot.specs.Limits.{write_keys}
+use Rattle.snapshot.specs.declared.account.Write.{Write}
+use Rattle.snapshot.specs.declared.fault.Refusal.{Refusal}
+use Rattle.snapshot.specs.declared.fault.Refusal.TheVariants.{WriteSetFull}
+use Rattle.engine_parts.specs.Lists.{entries}
+use Rattle.engine_parts.specs.declared.write_set.WriteSet.{WriteSet}
+
+-- the writes, in rising order of their keys
+abbrev pub written : WriteSet → List Write
+written s = entries s.writes
+
+-- more than eight writes are refused
+abbrev pub fit_or_refused : List Write → Result (List Write) Refusal
+fit_or_refused ws = if nat_le (length ws) write_keys then Ok ws else Err WriteSetFull

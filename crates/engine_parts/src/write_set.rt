@@ -1,0 +1,82 @@
+// A leg's write set: at most eight writes in rising order of their keys, one for a key.
+ghost use Rattle.std.specs.Prelude.{◌≡◌, ◌≤◌, [], length, nat_le, OnOk, OnErr};
+ghost use Rattle.std.specs.List.{position_or_len};
+ghost use Rattle.std.specs.Result.{result_and, result_map_both};
+ghost use Rattle.store.specs.Meaning.{written_to};
+ghost use Rattle.lives.specs.WriteSets.{with_write, united};
+ghost use Rattle.engine_parts.specs.WriteSets.{written, fit_or_refused};
+
+use crate::list::BoundedList;
+use snapshot::account::{NO_WRITE, Write};
+use snapshot::fault::Refusal;
+use snapshot::limits::WRITE_KEYS;
+
+// The writes. `write` alone puts one in, where its key belongs.
+#[derive(Clone, Copy)]
+pub struct WriteSet {
+    writes: BoundedList<Write, WRITE_KEYS>,
+}
+
+impl WriteSet {
+    // A set without writes.
+    pub fn empty() -> WriteSet
+        ensures { written result ≡ [] }
+    {
+        WriteSet {
+            writes: BoundedList::empty(NO_WRITE),
+        }
+    }
+
+    // The writes, from the lowest key to the highest.
+    pub fn as_slice(&self) -> &[Write]
+        ensures value { result.now ≡ written self.now }
+        ensures fits { length result.now ≤ 8 }
+    {
+        self.writes.as_slice()
+    }
+
+    // The value that was written to the key, if one was.
+    pub fn value_of(&self, key: u8) -> Option<u32>
+        ensures { result ≡ written_to key (written self.now) }
+    {
+        self.writes.with_key(key).map(|held| held.value)
+    }
+
+    // The place of the first write to this key or a higher one, or past the last where there is none.
+    fn place_of(&self, key: u8) -> usize
+        ensures { result ≡ position_or_len (λ held. nat_le key held.key) (written self.now) }
+    {
+        let writes = self.as_slice();
+        writes
+            .iter()
+            .position(|held| key <= held.key)
+            .unwrap_or(writes.len())
+    }
+
+    // Makes a write, which takes the place of one to the same key. Refused where the set would pass eight keys.
+    pub fn write(&mut self, write: Write) -> Result<(), Refusal>
+        ensures answer { result ≡ result_and (fit_or_refused (with_write write (written self.old))) (Ok tt) }
+        ensures after { OnOk result (written self.new ≡ with_write write (written self.old)) }
+        ensures unchanged { OnErr result (self.new ≡ self.old) }
+    {
+        let place = self.place_of(write.key);
+        let there = self.writes.get(place);
+        if there.is_some_and(|held| held.key == write.key) {
+            self.writes.put(place, write);
+        } else if !self.writes.insert(place, write) {
+            return Err(Refusal::WriteSetFull);
+        }
+        Ok(())
+    }
+
+    // This set and a later one united: a key in both has the later one's value. Refused where that would pass eight keys.
+    pub fn joined(&self, later: &WriteSet) -> Result<WriteSet, Refusal>
+        ensures { result_map_both written (λ e. e) result ≡ fit_or_refused (united (written self.now) (written later.now)) }
+    {
+        let mut both = *self;
+        for write in later.as_slice() {
+            both.write(*write)?;
+        }
+        Ok(both)
+    }
+}
