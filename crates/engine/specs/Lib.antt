@@ -3,3 +3,4 @@ pub mod Legs
 pub mod Chains
 pub mod ChainCalls
 pub mod Drawn
+pub mod Engines

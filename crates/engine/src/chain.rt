@@ -1,5 +1,6 @@
 // A chain: its legs by their numbers, and its readings in order.
-ghost use Rattle.std.specs.Prelude.{◌≡◌, ◌<◌, ◌+◌, length, OnErr, OnSome};
+ghost use Rattle.std.specs.Prelude.{◌≡◌, ◌<◌, ◌+◌, length, OnErr, OnSome, nat_lt};
+ghost use Rattle.snapshot.specs.Limits.{chain_readings};
 ghost use Rattle.engine_parts.specs.Lists.{entries};
 ghost use Rattle.std.specs.Option.{option_map, option_copied};
 ghost use Rattle.lives.specs.Engines as model;
@@ -172,7 +173,7 @@ impl Chain {
         if let Some(own) = self.readings.with_key(LegAndKey { leg, key }) {
             return Ok(own.made.reading.value);
         }
-        if self.readings.is_full() {
+        if !self.has_room() {
             return Err(named.refused(Refusal::ReadingsFull));
         }
         let OpenLeg {
@@ -193,6 +194,13 @@ impl Chain {
             }
             Err(fault) => Err(named.refused_by_store(fault)),
         }
+    }
+
+    // Is there room for one more reading?
+    fn has_room(&self) -> bool
+        ensures { result ≡ nat_lt (length (chain_of self.now).readings) chain_readings }
+    {
+        self.readings.len() < CHAIN_READINGS
     }
 
     // Narrows the leg that made a reading, and adds the reading to those of the chain.

@@ -2,6 +2,7 @@
 #![tactic(auto)]
 
 mod chain;
+pub mod engine;
 mod leg;
 mod named;
 mod worker;

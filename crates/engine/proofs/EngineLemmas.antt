@@ -1,0 +1,159 @@
+-- What stands at a place of an engine, and what a change of one chain, cache or place is to the engine.
+use Rattle.std.proofs.Common.{◌≡◌, ℕ, ◌<◌, Bool, true, false, cond, List, length, get_or, set, Some, None, Ok, Err, Option, Result, is_some, refl, sym, ap, ◌∙◌, arith, rules}
+use Rattle.std.specs.Option.{option_map}
+use Rattle.std.proofs.lemmas.List.{set-get_or}
+use Rattle.snapshot.specs.Limits.{is_worker}
+use Rattle.snapshot.specs.declared.fault.EngineFault.{EngineFault}
+use Rattle.store.specs.Meaning.{Meaning}
+use Rattle.engine_parts.specs.WaitingNotices.{told, caches_of}
+use Rattle.engine_parts.specs.declared.cache.Cache.{Cache}
+use Rattle.engine_parts.specs.declared.notices.Notices.{Notices}
+use Rattle.engine_parts.proofs.ItemLemmas.{item_set, item_there}
+use Rattle.lives.specs.Caches as model_caches
+use Rattle.lives.specs.Engines as model
+use Rattle.engine.specs.Chains.{chain_of}
+use Rattle.engine.specs.Engines.{engine_of}
+use Rattle.engine.specs.Workers.{number_of}
+use Rattle.engine.specs.declared.chain.Chain.{Chain}
+use Rattle.engine.specs.declared.engine.Engine.{Engine}
+use Rattle.engine.specs.declared.worker.Worker.{Worker}
+use Rattle.lives.specs.Steps.{Outcome, check, with_chain, with_open_leg}
+use Rattle.engine.proofs.ReadLift.{with_caches}
+use Rattle.engine.proofs.CallLifts.{ComesTo, out_of_range, no_chain, no_chain_at_all}
+use Rattle.engine.proofs.Lifts.{WithChain, WithEngine, Lifts, outcome_from}
+
+-- Workers by their numbers.
+
+no_worker_of : (b : Bool) (w : ℕ) (r : Option Worker) → option_map number_of r ≡ cond b (Some w) None → r ≡ None → b ≡ false
+no_worker_of false w r e n = refl
+no_worker_of true w None e n = absurd cc
+no_worker_of true w (Some x) e n = absurd cc
+
+-- no worker has the number
+pub no_worker : (w : ℕ) (r : Option Worker) → option_map number_of r ≡ cond (is_worker w) (Some w) None → r ≡ None → is_worker w ≡ false
+no_worker w r = no_worker_of (is_worker w) w r
+
+worker_of : (b : Bool) (w : ℕ) (r : Option Worker) (x : Worker) → option_map number_of r ≡ cond b (Some w) None → r ≡ Some x → (b ≡ true) × (number_of x ≡ w)
+worker_of true w r x e is = (refl, cc (ap (option_map number_of) is))
+worker_of false w r x e is = absurd (cc (ap (option_map number_of) is))
+
+-- one has it
+pub worker_is :
+    (w : ℕ) (r : Option Worker) (x : Worker) → option_map number_of r ≡ cond (is_worker w) (Some w) None → r ≡ Some x →
+    (is_worker w ≡ true) × (number_of x ≡ w)
+worker_is w r x = worker_of (is_worker w) w r x
+
+-- Places.
+
+module _ {S : Type 0} (meaning : S → Meaning) (e : Engine S) (p : ℕ) (within : p < length e.places) where
+  -- what stands at a place
+  pub stands : (o : Option Chain) → get_or e.places p None ≡ o → (engine_of meaning e).places p ≡ option_map chain_of o
+  stands o is = item_there (option_map chain_of) None e.places p None within ∙ ap (option_map chain_of) is
+
+  -- another chain, or none, stands there
+  pub place_set :
+      (o : Option Chain) →
+      engine_of meaning (record e { places = set e.places p o }) ≡ model.with_place p (option_map chain_of o) (engine_of meaning e)
+  place_set o =
+      ap
+      (λ f. record { places = f; caches = (engine_of meaning e).caches; notices = (engine_of meaning e).notices; store = (engine_of meaning e).store })
+      (item_set (option_map chain_of) None e.places p o within)
+
+  -- what a call makes of the chain there, it makes of the engine
+  pub called :
+      {X : Type 0} (r : Result X EngineFault) (after : Chain) (made : WithChain X) (told : WithEngine X) →
+      Lifts (engine_of meaning e) p made told → ◌≡◌ {A = WithChain X} (r, chain_of after) made →
+      ◌≡◌ {A = WithEngine X} (r, engine_of meaning (record e { places = set e.places p (Some after) })) told
+  called {X} r after made told lift is = ap (λ s. let t : WithEngine X = (r, s) in t) (place_set (Some after)) ∙ lift r (chain_of after) is
+
+  -- a place that was looked at and left
+  pub left : engine_of meaning (record e { places = set e.places p (get_or e.places p None) }) ≡ engine_of meaning e
+  left = ap (λ ps. engine_of meaning (record e { places = ps })) (set-get_or e.places p None)
+
+-- An answer, or an engine, in the place of one that is the same.
+
+pub answered :
+    {X : Type 0} (s : model.Engine) (r q : Result X EngineFault) (told : WithEngine X) → r ≡ q → ◌≡◌ {A = WithEngine X} (q, s) told →
+    ◌≡◌ {A = WithEngine X} (r, s) told
+answered {X} s r q told same is = ap (λ h. let t : WithEngine X = (h, s) in t) same ∙ is
+
+pub left_after :
+    {X : Type 0} (s t : model.Engine) (r : Result X EngineFault) (told : WithEngine X) → s ≡ t → ◌≡◌ {A = WithEngine X} (r, t) told →
+    ◌≡◌ {A = WithEngine X} (r, s) told
+left_after {X} s t r told same is = ap (λ h. let u : WithEngine X = (r, h) in u) same ∙ is
+
+-- Refusals at the head of a call, by the fault that it answers.
+
+pub refused_out :
+    {X : Type 0} (s : model.Engine) (ok : Bool) (f g : EngineFault) (next : Outcome X) → f ≡ g → ok ≡ false →
+    ComesTo s (Err f) s (check ok g next)
+refused_out {X} s ok f g next same failed =
+    ap (λ h. let t : WithEngine X = (Err h, s) in t) same ∙ out_of_range ok g next s failed
+
+module _ {S : Type 0} (meaning : S → Meaning) (e : Engine S) (p : ℕ) (within : p < length e.places) where
+  nothing_there : get_or e.places p None ≡ None → (engine_of meaning e).places p ≡ None
+  nothing_there none = stands meaning e p within None none
+
+  pub refused_missing :
+      {X : Type 0} (ok : Bool) (f g h : EngineFault) (l : ℕ) (next : model.Chain → model.OpenLeg → Outcome X) → f ≡ h →
+      ok ≡ true → get_or e.places p None ≡ None →
+      ◌≡◌ {A = WithEngine X}
+      (Err f, engine_of meaning (record e { places = set e.places p (get_or e.places p None) }))
+      (outcome_from (engine_of meaning e) (check ok g (with_open_leg ((engine_of meaning e).places p) l h next)))
+  refused_missing {X} ok f g h l next same passed none =
+      let s = engine_of meaning e in
+      ap (λ t. let r : WithEngine X = (Err f, t) in r) (left meaning e p within)
+      ∙ ap (λ k. let r : WithEngine X = (Err k, s) in r) same
+      ∙ no_chain ok g (s.places p) l h next s passed (nothing_there none)
+
+  pub refused_at_all :
+      {X : Type 0} (ok : Bool) (f g h : EngineFault) (next : model.Chain → Outcome X) → f ≡ h → ok ≡ true →
+      get_or e.places p None ≡ None →
+      ComesTo (engine_of meaning e) (Err f) (engine_of meaning e) (check ok g (with_chain ((engine_of meaning e).places p) h next))
+  refused_at_all {X} ok f g h next same passed none =
+      let s = engine_of meaning e in
+      answered s (Err f) (Err h) _ (ap Err same) (no_chain_at_all ok g (s.places p) h next s passed (nothing_there none))
+
+  -- another chain stands there, and the caches are others
+  pub read_called :
+      (r : Result ℕ EngineFault) (after : Chain) (caches : List Cache) (told : WithEngine ℕ) →
+      ◌≡◌ {A = WithEngine ℕ} (r, with_caches (engine_of meaning e) p (chain_of after, caches_of caches)) told →
+      ◌≡◌ {A = WithEngine ℕ} (r, engine_of meaning (record e { places = set e.places p (Some after); caches = caches })) told
+  read_called r after caches told is =
+      let s = engine_of meaning e in
+      let E : (ℕ → Option model.Chain) → WithEngine ℕ =
+      λ f. (r, record { places = f; caches = caches_of caches; notices = s.notices; store = s.store }) in
+      ap E (item_set (option_map chain_of) None e.places p (Some after) within) ∙ is
+
+-- Free places and taken ones.
+
+pub free_place : (o : Option Chain) → is_some o ≡ false → o ≡ None
+free_place None e = refl
+free_place (Some c) e = absurd cc
+
+pub taken_place : (o : Option Chain) → is_some o ≡ true → (c : Chain) × (o ≡ Some c)
+taken_place None e = absurd cc
+taken_place (Some c) e = (c, refl)
+
+-- Caches and notices.
+
+module _ {S : Type 0} (meaning : S → Meaning) (e : Engine S) where
+  pub caches_changed :
+      (caches : List Cache) (meant : ℕ → model_caches.Cache) → caches_of caches ≡ meant →
+      engine_of meaning (record e { caches = caches })
+      ≡ record {
+        places = (engine_of meaning e).places;
+        caches = meant;
+        notices = (engine_of meaning e).notices;
+        store = (engine_of meaning e).store;
+      }
+  caches_changed caches meant same =
+      let s = engine_of meaning e in
+      let E : (ℕ → model_caches.Cache) → model.Engine =
+      λ f. record { places = s.places; caches = f; notices = s.notices; store = s.store } in
+      ap E same
+
+  pub notices_changed :
+      (notices : Notices) (meant : model.Notices) → told notices ≡ meant →
+      engine_of meaning (record e { notices = notices }) ≡ model.with_notices meant (engine_of meaning e)
+  notices_changed notices meant same = ap (λ n. model.with_notices n (engine_of meaning e)) same

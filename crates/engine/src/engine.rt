@@ -1,0 +1,269 @@
+// The engine and its calls. A refused call answers its fault and leaves the engine as it was.
+ghost use Rattle.std.specs.Prelude.{◌≡◌, Ok, OnErr, length};
+ghost use Rattle.snapshot.specs.Refusals.{own_fault, unnamed};
+ghost use Rattle.snapshot.specs.declared.fault.Layer.TheVariants as layer;
+ghost use Rattle.snapshot.specs.declared.fault.Refusal.TheVariants.{NoSuchNotice};
+ghost use Rattle.engine_parts.specs.WaitingNotices.{caches_of};
+ghost use Rattle.lives.specs.Caches.{with_notice};
+ghost use Rattle.lives.specs.Updates.{with_at};
+ghost use Rattle.lives.specs.Engines as model;
+ghost use Rattle.lives.specs.declared.calls.Call.TheVariants as call;
+ghost use Rattle.engine.specs.Drawn.{drawn};
+ghost use Rattle.engine.specs.Engines.{engine_of};
+
+use crate::chain::Chain;
+use crate::named::Named;
+use crate::worker::Worker;
+use engine_parts::cache::{CACHES, Cache};
+use engine_parts::notices::Notices;
+use lives::records::Notice;
+use snapshot::fault::{EngineFault, Fault, Layer, NOT_NAMED, Refusal};
+use snapshot::limits::{PLACES, is_leg, is_place, is_worker};
+use store::traits::Store;
+
+// How many chains can be open at a time.
+const ALL_PLACES: usize = PLACES as usize;
+
+// The chain at each place, the cache of each worker, the notices, and the store below.
+#[derive(Drop)]
+pub struct Engine<S> {
+    places: [Option<Chain>; ALL_PLACES],
+    caches: [Cache; CACHES],
+    notices: Notices,
+    store: S,
+}
+
+impl<S: Store> Engine<S> {
+    // An engine over a store, without chains, entries and notices.
+    pub fn new(store: S) -> Engine<S>
+        ensures { engine_of S.Reads.meaning result ≡ model.new_engine (S.Reads.meaning store) }
+    {
+        Engine {
+            places: [None; ALL_PLACES],
+            caches: [Cache::empty(); CACHES],
+            notices: Notices::none(),
+            store,
+        }
+    }
+
+    // Opens a chain at a free place, with its leg 0 at a worker, and answers 0, that leg's number.
+    // Refused: 1 place or worker out of range, 2 the place is not free.
+    pub fn begin(&mut self, place: u8, worker: u8) -> Result<u8, EngineFault>
+        ensures step { (result, engine_of S.Reads.meaning self.new) ≡ drawn S.Store.depth (call.Begin place worker) (engine_of S.Reads.meaning self.old) }
+        ensures unchanged { OnErr result (self.new ≡ self.old) }
+    {
+        let named = Named {
+            place,
+            leg: NOT_NAMED,
+            key: NOT_NAMED,
+        };
+        let Some(worker) = Worker::numbered(worker) else {
+            return Err(named.refused(Refusal::OutOfRange));
+        };
+        if !is_place(place) {
+            return Err(named.refused(Refusal::OutOfRange));
+        }
+        if self.places[place as usize].is_some() {
+            return Err(named.refused(Refusal::PlaceOccupied));
+        }
+        self.places[place as usize] = Some(Chain::new(worker));
+        Ok(0)
+    }
+
+    // Ends a leg and opens the next at a worker, with the same interval and write set; answers the new leg's number.
+    // Refused: 1 place, leg or worker out of range, 3 that leg is not open, 5 sixteen legs have been opened.
+    pub fn hand(&mut self, place: u8, leg: u8, worker: u8) -> Result<u8, EngineFault>
+        ensures step { (result, engine_of S.Reads.meaning self.new) ≡ drawn S.Store.depth (call.Hand place leg worker) (engine_of S.Reads.meaning self.old) }
+        ensures unchanged { OnErr result (self.new ≡ self.old) }
+    {
+        let named = Named {
+            place,
+            leg,
+            key: NOT_NAMED,
+        };
+        let Some(worker) = Worker::numbered(worker) else {
+            return Err(named.refused(Refusal::OutOfRange));
+        };
+        if !named.has_leg() {
+            return Err(named.refused(Refusal::OutOfRange));
+        }
+        let Some(chain) = &mut self.places[place as usize] else {
+            return Err(named.refused(Refusal::NotOpen));
+        };
+        chain.hand(named, worker)
+    }
+
+    // Ends a leg and opens two with its interval and write set; answers the two new numbers, the first worker's first.
+    // Refused: 1 place, leg or a worker out of range, 3 that leg is not open, 5 there is no room for two more legs.
+    pub fn fork(
+        &mut self,
+        place: u8,
+        leg: u8,
+        first_worker: u8,
+        second_worker: u8,
+    ) -> Result<(u8, u8), EngineFault>
+        ensures step { (result, engine_of S.Reads.meaning self.new) ≡ drawn S.Store.depth (call.Fork place leg first_worker second_worker) (engine_of S.Reads.meaning self.old) }
+        ensures unchanged { OnErr result (self.new ≡ self.old) }
+    {
+        let named = Named {
+            place,
+            leg,
+            key: NOT_NAMED,
+        };
+        let Some(first) = Worker::numbered(first_worker) else {
+            return Err(named.refused(Refusal::OutOfRange));
+        };
+        let Some(second) = Worker::numbered(second_worker) else {
+            return Err(named.refused(Refusal::OutOfRange));
+        };
+        if !named.has_leg() {
+            return Err(named.refused(Refusal::OutOfRange));
+        }
+        let Some(chain) = &mut self.places[place as usize] else {
+            return Err(named.refused(Refusal::NotOpen));
+        };
+        chain.fork(named, first, second)
+    }
+
+    // Ends two legs and opens one at a worker, with the times of both and the writes of both, where a key in both takes
+    // the second leg's value; answers the new leg's number. Refused: 1 place, a leg or worker out of range, 3 one of the
+    // legs is not open, 4 they are one, 5 sixteen legs have been opened, 6 they have no time in common, 7 more than eight
+    // keys are written.
+    pub fn join(
+        &mut self,
+        place: u8,
+        first_leg: u8,
+        second_leg: u8,
+        worker: u8,
+    ) -> Result<u8, EngineFault>
+        ensures step { (result, engine_of S.Reads.meaning self.new) ≡ drawn S.Store.depth (call.Join place first_leg second_leg worker) (engine_of S.Reads.meaning self.old) }
+        ensures unchanged { OnErr result (self.new ≡ self.old) }
+    {
+        let named = Named {
+            place,
+            leg: first_leg,
+            key: NOT_NAMED,
+        };
+        let Some(worker) = Worker::numbered(worker) else {
+            return Err(named.refused(Refusal::OutOfRange));
+        };
+        if !named.has_leg() {
+            return Err(named.refused(Refusal::OutOfRange));
+        }
+        if !is_leg(second_leg) {
+            return Err(named.refused(Refusal::OutOfRange));
+        }
+        let Some(chain) = &mut self.places[place as usize] else {
+            return Err(named.refused(Refusal::NotOpen));
+        };
+        chain.join(named, second_leg, worker)
+    }
+
+    // Answers a key's value: from the leg's write set, else from a reading of the leg, else from its worker's cache, else
+    // from the store. Refused: 1 place, leg or key out of range, 3 that leg is not open, 8 cache or store would be needed
+    // for a 33rd reading, 15 the store has dropped the version.
+    pub fn read(&mut self, place: u8, leg: u8, key: u8) -> Result<u32, EngineFault>
+        ensures step { (result, engine_of S.Reads.meaning self.new) ≡ drawn S.Store.depth (call.Read place leg key) (engine_of S.Reads.meaning self.old) }
+        ensures unchanged { OnErr result (self.new ≡ self.old) }
+    {
+        let named = Named { place, leg, key };
+        if !named.has_leg_and_key() {
+            return Err(named.refused(Refusal::OutOfRange));
+        }
+        let Some(chain) = &mut self.places[place as usize] else {
+            return Err(named.refused(Refusal::NotOpen));
+        };
+        chain.read(named, &mut self.caches, &self.store)
+    }
+
+    // Sets a key's value in the leg's write set.
+    // Refused: 1 place, leg or key out of range, 3 that leg is not open, 7 the write set would pass eight keys.
+    pub fn write(&mut self, place: u8, leg: u8, key: u8, value: u32) -> Result<(), EngineFault>
+        ensures step { (result, engine_of S.Reads.meaning self.new) ≡ drawn S.Store.depth (call.Write place leg key value) (engine_of S.Reads.meaning self.old) }
+        ensures unchanged { OnErr result (self.new ≡ self.old) }
+    {
+        let named = Named { place, leg, key };
+        if !named.has_leg_and_key() {
+            return Err(named.refused(Refusal::OutOfRange));
+        }
+        let Some(chain) = &mut self.places[place as usize] else {
+            return Err(named.refused(Refusal::NotOpen));
+        };
+        chain.write(named, value)
+    }
+
+    // Frees a place. Refused: 1 place out of range, 3 no chain is open there.
+    pub fn abandon(&mut self, place: u8) -> Result<(), EngineFault>
+        ensures step { (result, engine_of S.Reads.meaning self.new) ≡ drawn S.Store.depth (call.Abandon place) (engine_of S.Reads.meaning self.old) }
+        ensures unchanged { OnErr result (self.new ≡ self.old) }
+    {
+        let named = Named {
+            place,
+            leg: NOT_NAMED,
+            key: NOT_NAMED,
+        };
+        if !is_place(place) {
+            return Err(named.refused(Refusal::OutOfRange));
+        }
+        if self.places[place as usize].is_none() {
+            return Err(named.refused(Refusal::NotOpen));
+        }
+        self.places[place as usize] = None;
+        Ok(())
+    }
+
+    // Shows a waiting notice, by its position from 0, to its worker's cache, and leaves it waiting.
+    // Refused: 16 no notice waits at that position.
+    pub fn deliver(&mut self, position: u64) -> Result<(), EngineFault>
+        ensures step { (result, engine_of S.Reads.meaning self.new) ≡ drawn S.Store.depth (call.Deliver position) (engine_of S.Reads.meaning self.old) }
+        ensures unchanged { OnErr result (self.new ≡ self.old) }
+    {
+        let Some(notice) = self.notices.get(position) else {
+            return Err(no_such_notice());
+        };
+        tell(&mut self.caches, notice);
+        Ok(())
+    }
+
+    // Removes a waiting notice, and later ones move up. Refused: 16 no notice waits at that position.
+    pub fn discard(&mut self, position: u64) -> Result<(), EngineFault>
+        ensures step { (result, engine_of S.Reads.meaning self.new) ≡ drawn S.Store.depth (call.Discard position) (engine_of S.Reads.meaning self.old) }
+        ensures unchanged { OnErr result (self.new ≡ self.old) }
+    {
+        let Some(_) = self.notices.get(position) else {
+            return Err(no_such_notice());
+        };
+        self.notices.discard(position);
+        Ok(())
+    }
+
+    // How many notices wait, and how many were lost.
+    pub fn count(&self) -> (usize, u64)
+        ensures step { (Ok result, engine_of S.Reads.meaning self.now) ≡ drawn S.Store.depth call.Count (engine_of S.Reads.meaning self.now) }
+    {
+        self.notices.count()
+    }
+
+    // The store drops of each key the versions older than the newest one that is above neither the horizon nor the last
+    // timestamp.
+    pub fn prune(&mut self, horizon: u64)
+        ensures step { (Ok tt, engine_of S.Reads.meaning self.new) ≡ drawn S.Store.depth (call.Prune horizon) (engine_of S.Reads.meaning self.old) }
+    {
+        self.store.prune(horizon);
+    }
+}
+
+// The cache of a notice's worker takes it.
+fn tell(caches: &mut [Cache; CACHES], notice: Notice)
+    ensures { caches_of caches.new ≡ with_at notice.worker (with_notice notice (caches_of caches.old notice.worker)) (caches_of caches.old) }
+{
+    if is_worker(notice.worker) {
+        caches[notice.worker as usize].take_notice(notice);
+    }
+}
+
+fn no_such_notice() -> EngineFault
+    ensures { result ≡ own_fault (unnamed NoSuchNotice layer.Notices) }
+{
+    EngineFault::own(Fault::unnamed(Refusal::NoSuchNotice, Layer::Notices))
+}
