@@ -1,6 +1,6 @@
 -- A notice told to the cache of its worker.
 use mathlib.Core.Path.{fun_ext}
-use Rattle.std.proofs.Common.{◌≡◌, ℕ, ◌<◌, ◌≤◌, [], List, length, get_or, set, refl, sym, ap, ◌∙◌}
+use Rattle.std.proofs.Common.{◌≡◌, ◌<◌, ◌≤◌, [], List, length, get_or, set, refl, sym, ap, ◌∙◌}
 use Rattle.engine_parts.proofs.ItemLemmas.{item_set, item_there, item_past}
 use Rattle.engine_parts.specs.Parts.{cached}
 use Rattle.engine_parts.specs.WaitingNotices.{caches_of}

@@ -1,5 +1,5 @@
 -- What a write to a chain's legs does to what the chain means.
-use Rattle.std.proofs.Common.{◌≡◌, ℕ, suc, ◌+◌, ◌<◌, eqb, ltb, true, false, Some, Ok, Result, List, length, set, refl, sym, ap, ◌∙◌, add-one, arith}
+use Rattle.std.proofs.Common.{◌≡◌, ℕ, ◌+◌, ◌<◌, eqb, ltb, true, false, Some, Ok, Result, List, length, set, refl, sym, ap, ◌∙◌, add-one}
 use Rattle.std.proofs.lemmas.Bool.{false≢true, eq-eqb}
 use Rattle.snapshot.specs.declared.fault.EngineFault.{EngineFault}
 use Rattle.engine_parts.proofs.ItemLemmas.{item_set}

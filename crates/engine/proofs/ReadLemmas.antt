@@ -1,5 +1,5 @@
 -- A read that goes further than its leg: what it answers, and what it leaves of the chain and of the caches.
-use Rattle.std.proofs.Common.{◌≡◌, ℕ, ◌<◌, ltb, true, Some, None, Ok, Err, Result, Option, length, refl, sym, ap, ◌∙◌, arith}
+use Rattle.std.proofs.Common.{◌≡◌, ℕ, ltb, true, Some, None, Ok, Err, Result, length, refl, sym, ap, ◌∙◌}
 use Rattle.snapshot.specs.Refusals.{around_store}
 use Rattle.snapshot.specs.declared.account.Reading.{Reading}
 use Rattle.snapshot.specs.declared.fault.EngineFault.{EngineFault}

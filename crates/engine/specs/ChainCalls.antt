@@ -1,13 +1,12 @@
 -- What the calls that name a leg make of its chain: an answer or a fault, and the chain after it. A read also asks the
 -- caches and the store, and changes the cache of the leg's worker.
-use Rattle.std.specs.Prelude.{ℕ, suc, Bool, if◌then◌else◌, List, length, Some, None, Ok, Err, Option, Result, nat_lt, nat_le, ◌==◌}
+use Rattle.std.specs.Prelude.{ℕ, suc, if◌then◌else◌, length, Ok, Err, Result, nat_lt, ◌==◌}
 use Rattle.std.specs.Option.{option_map_or}
-use Rattle.snapshot.specs.Intervals.{narrowed, joined_or_refused}
+use Rattle.snapshot.specs.Intervals.{narrowed}
 use Rattle.snapshot.specs.Limits.{legs, chain_readings}
 use Rattle.snapshot.specs.Refusals.{around_store}
 use Rattle.snapshot.specs.declared.account.ChainReading.{ChainReading}
 use Rattle.snapshot.specs.declared.account.Reading.{Reading}
-use Rattle.snapshot.specs.declared.account.Write.{Write}
 use Rattle.snapshot.specs.declared.fault.EngineFault.{EngineFault}
 use Rattle.snapshot.specs.declared.fault.Fault.{Fault}
 use Rattle.snapshot.specs.declared.fault.Refusal.{Refusal}
@@ -19,8 +18,7 @@ use Rattle.lives.specs.Caches.{Cache, entry_of, answering, used_latest, with_ans
 use Rattle.lives.specs.Engines.{LegState, OpenLeg, running, on_worker, holding, within, Chain, with_leg, end_leg, open_leg, add_reading}
 use Rattle.lives.specs.Steps.{chain_fault, own_reading}
 use Rattle.lives.specs.Updates.{with_at}
-use Rattle.lives.specs.WriteSets.{with_write, united}
-use Rattle.lives.specs.declared.records.LegReading.{LegReading}
+use Rattle.lives.specs.WriteSets.{with_write}
 use Rattle.engine.specs.Legs.{open_in, on_result, joined_leg}
 use Rattle.engine.specs.declared.named.Named.{Named}
 

@@ -1,5 +1,4 @@
 -- What a chain means in the model.
-use Rattle.std.specs.Prelude.{ℕ}
 use Rattle.engine_parts.specs.Lists.{entries, item_at}
 use Rattle.lives.specs.Engines as model
 use Rattle.engine.specs.Legs.{leg_of}

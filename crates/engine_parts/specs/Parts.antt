@@ -1,5 +1,4 @@
 -- What the parts of an engine mean in the model.
-use Rattle.std.specs.Prelude.{List}
 use Rattle.lives.specs.Caches as model
 use Rattle.engine_parts.specs.Lists.{entries}
 use Rattle.engine_parts.specs.declared.cache.Cache.{Cache}

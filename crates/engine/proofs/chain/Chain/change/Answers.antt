@@ -1,6 +1,5 @@
-use Rattle.std.proofs.Common.{◌≡◌, ◌<◌, length, get_or, ap, sym, ◌∙◌, rules}
+use Rattle.std.proofs.Common.{◌<◌, length, ap, sym, ◌∙◌, rules}
 use Rattle.engine_parts.proofs.ItemLemmas.{item_there}
-use Rattle.engine_parts.specs.Lists.{item_at}
 use Rattle.lives.specs.Engines as model
 use Rattle.engine.proofs.ChainLemmas.{leg_set}
 use Rattle.engine.specs.Chains.{chain_of}

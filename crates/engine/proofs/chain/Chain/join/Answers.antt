@@ -1,5 +1,4 @@
-use Rattle.std.proofs.Common.{◌≡◌, eqb, ltb, true, false, Some, Ok, Result, ap, sym, ◌∙◌, rules}
-use Rattle.lives.specs.Engines as model
+use Rattle.std.proofs.Common.{◌≡◌, eqb, ltb, true, false, Some, Ok, rules}
 use Rattle.engine.proofs.ChainLemmas.{both_end, legs_joined}
 use Rattle.engine.specs.Chains.{chain_of}
 use Rattle.engine.specs.Legs.{open_leg_of, open_in, joined_leg}

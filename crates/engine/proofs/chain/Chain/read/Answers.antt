@@ -1,5 +1,4 @@
-use Rattle.std.proofs.Common.{◌≡◌, ℕ, ◌<◌, [], Ok, Err, List, Result, length, get_or, set, ap, sym, ◌∙◌, rules, arith}
-use Rattle.std.proofs.lemmas.Bool.Decides.{nat_tests}
+use Rattle.std.proofs.Common.{◌≡◌, ℕ, ◌<◌, [], Ok, Err, List, Result, length, get_or, set, ap, sym, ◌∙◌, rules}
 use Rattle.std.proofs.lemmas.List.{set-get_or}
 use Rattle.snapshot.specs.Refusals.{around_store}
 use Rattle.snapshot.specs.declared.fault.EngineFault.{EngineFault}
@@ -13,8 +12,7 @@ use Rattle.lives.specs.Updates.{with_at}
 use Rattle.engine.proofs.ReadLemmas.{Further, read_answered, read_refused}
 use Rattle.engine.specs.ChainCalls.{looked_further, noted}
 use Rattle.engine.specs.Chains.{chain_of}
-use Rattle.engine.specs.Legs.{open_leg_of, open_in}
-use Rattle.engine.specs.Workers.{number_of}
+use Rattle.engine.specs.Legs.{open_leg_of}
 use Rattle.engine.proofs.chain.Chain.read.Goals as goal
 
 abbrev no_cache : Cache

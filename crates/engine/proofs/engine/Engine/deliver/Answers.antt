@@ -1,4 +1,4 @@
-use Rattle.std.proofs.Common.{◌≡◌, Some, None, Ok, Err, sym, ap, ◌∙◌, rules}
+use Rattle.std.proofs.Common.{Err, sym, ap, ◌∙◌}
 use Rattle.engine.specs.Engines.{engine_of}
 use Rattle.engine.proofs.CallLifts.{deliver_lifts, no_notice_to_deliver}
 use Rattle.engine.proofs.EngineLemmas.{answered, left_after, caches_changed}

@@ -1,4 +1,4 @@
-use Rattle.std.proofs.Common.{◌≡◌, Some, None, Ok, Err, sym, ap, ◌∙◌, rules}
+use Rattle.std.proofs.Common.{Err, sym, ap, ◌∙◌}
 use Rattle.engine.specs.Engines.{engine_of}
 use Rattle.engine.proofs.CallLifts.{discard_lifts, no_notice_to_discard}
 use Rattle.engine.proofs.EngineLemmas.{answered, left_after, notices_changed}

@@ -1,6 +1,6 @@
-use Rattle.std.proofs.Common.{◌≡◌, ◌<◌, ◌&&◌, true, false, Some, length, ap, ◌∙◌, rules, arith}
+use Rattle.std.proofs.Common.{◌≡◌, ◌<◌, ◌&&◌, true, Some, length, ap, ◌∙◌, rules, arith}
 use Rattle.std.proofs.lemmas.Bool.Decides.{nat_tests}
-use Rattle.snapshot.specs.Limits.{is_place, is_leg, is_worker, is_key}
+use Rattle.snapshot.specs.Limits.{is_place, is_leg, is_worker}
 use Rattle.snapshot.specs.Refusals.{not_named}
 use Rattle.engine.specs.Chains.{chain_of}
 use Rattle.engine.specs.ChainCalls.{forked}

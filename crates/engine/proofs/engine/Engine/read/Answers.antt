@@ -1,9 +1,7 @@
-use Rattle.std.proofs.Common.{◌≡◌, ◌<◌, ◌&&◌, true, false, Some, length, ap, ◌∙◌, rules, arith}
+use Rattle.std.proofs.Common.{◌≡◌, ◌<◌, ◌&&◌, true, Some, length, rules, arith}
 use Rattle.std.proofs.lemmas.Bool.Decides.{nat_tests}
-use Rattle.snapshot.specs.Limits.{is_place, is_leg, is_worker, is_key}
-use Rattle.snapshot.specs.Refusals.{not_named}
+use Rattle.snapshot.specs.Limits.{is_place, is_leg, is_key}
 use Rattle.engine.specs.Chains.{chain_of}
-use Rattle.engine.specs.ChainCalls.{read_on}
 use Rattle.engine.specs.Engines.{engine_of}
 use Rattle.engine.proofs.EngineLemmas.{stands, read_called, refused_out, refused_missing}
 use Rattle.engine.proofs.ReadLift.{read_lifts}

@@ -1,12 +1,10 @@
-use Rattle.std.proofs.Common.{◌≡◌, ◌<◌, ◌&&◌, true, false, Some, length, ap, ◌∙◌, rules, arith}
+use Rattle.std.proofs.Common.{◌≡◌, ◌<◌, ◌&&◌, true, Some, length, rules, arith}
 use Rattle.std.proofs.lemmas.Bool.Decides.{nat_tests}
-use Rattle.snapshot.specs.Limits.{is_place, is_leg, is_worker, is_key}
-use Rattle.snapshot.specs.Refusals.{not_named}
+use Rattle.snapshot.specs.Limits.{is_place, is_leg, is_key}
 use Rattle.engine.specs.Chains.{chain_of}
-use Rattle.engine.specs.ChainCalls.{wrote}
 use Rattle.engine.specs.Engines.{engine_of}
-use Rattle.engine.proofs.EngineLemmas.{no_worker, worker_is, stands, called, refused_out, refused_missing}
-use Rattle.engine.proofs.Lifts.{naming, write_lifts}
+use Rattle.engine.proofs.EngineLemmas.{stands, called, refused_out, refused_missing}
+use Rattle.engine.proofs.Lifts.{write_lifts}
 use Rattle.engine.proofs.engine.Engine.write.Goals as goal
 
 pub returns-then-not-has_leg_and_key-clause-step : goal.returns-then-not-has_leg_and_key-clause-step

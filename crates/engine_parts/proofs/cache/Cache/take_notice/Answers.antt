@@ -1,7 +1,6 @@
 use Rattle.std.proofs.Common.{◌≡◌, ◌<◌, None, Some, length, sym, ◌∙◌, ap, rules}
 use Rattle.engine_parts.proofs.ListProofs.{something_there}
 use Rattle.std.specs.List.{slice_get}
-use Rattle.lives.specs.declared.records.CacheEntry.{CacheEntry}
 use Rattle.engine_parts.specs.Parts.{cached}
 use Rattle.engine_parts.proofs.CacheLemmas.{place_of, nothing_told, told_at}
 use Rattle.engine_parts.proofs.cache.Cache.take_notice.Goals as goal

@@ -1,6 +1,5 @@
-use Rattle.std.proofs.Common.{◌≡◌, min, ap, ◌+◌, ◌<◌, ◌≤◌, length, set, take, ◌∙◌, arith, rules}
+use Rattle.std.proofs.Common.{◌≡◌, min, ap, ◌+◌, ◌<◌, length, set, take, ◌∙◌, arith, rules}
 use Rattle.std.specs.List.{insert}
-use Rattle.std.proofs.lemmas.Bool.{cond-true}
 use Rattle.std.proofs.lemmas.Bool.Decides.{nat_tests}
 use Rattle.engine_parts.specs.Lists.{entries}
 use Rattle.engine_parts.proofs.ListProofs.{moved_down, at_the_end}
