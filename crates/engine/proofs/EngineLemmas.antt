@@ -1,9 +1,11 @@
 -- What stands at a place of an engine, and what a change of one chain, cache or place is to the engine.
-use Rattle.std.proofs.Common.{◌≡◌, ℕ, ◌<◌, Bool, true, false, cond, List, length, get_or, set, Some, None, Err, Option, Result, is_some, refl, ap, ◌∙◌}
+use Rattle.std.proofs.Common.{◌≡◌, ℕ, ◌<◌, Bool, true, false, List, length, get_or, set, Some, None, Err, Option, Result, is_some, refl, ap, ◌∙◌, sym, Ok}
 use Rattle.std.specs.Option.{option_map}
+use Rattle.std.specs.Result.{result_and, result_map_both}
 use Rattle.std.proofs.lemmas.List.{set-get_or}
 use Rattle.snapshot.specs.Limits.{is_worker}
 use Rattle.snapshot.specs.declared.fault.EngineFault.{EngineFault}
+use Rattle.snapshot.specs.declared.fault.Refusal.TheVariants.{OutOfRange}
 use Rattle.store.specs.Meaning.{Meaning}
 use Rattle.engine_parts.specs.WaitingNotices.{told, caches_of}
 use Rattle.engine_parts.specs.declared.cache.Cache.{Cache}
@@ -13,35 +15,74 @@ use Rattle.lives.specs.Caches as model_caches
 use Rattle.lives.specs.Engines as model
 use Rattle.engine.specs.Chains.{chain_of}
 use Rattle.engine.specs.Engines.{engine_of}
+use Rattle.engine.specs.Naming.{in_range_or_refused}
 use Rattle.engine.specs.Workers.{number_of}
 use Rattle.engine.specs.declared.chain.Chain.{Chain}
 use Rattle.engine.specs.declared.engine.Engine.{Engine}
+use Rattle.engine.specs.declared.named.Named.{Named}
 use Rattle.engine.specs.declared.worker.Worker.{Worker}
-use Rattle.lives.specs.Steps.{Outcome, check, with_chain, with_open_leg}
+use Rattle.lives.specs.Steps.{Outcome, check, with_chain, with_open_leg, chain_fault}
 use Rattle.engine.proofs.ReadLift.{with_caches}
 use Rattle.engine.proofs.CallLifts.{ComesTo, out_of_range, no_chain, no_chain_at_all}
 use Rattle.engine.proofs.Lifts.{WithChain, WithEngine, Lifts, outcome_from}
 
--- Workers by their numbers.
+-- Numbers in range.
 
-no_worker_of : (b : Bool) (w : ℕ) (r : Option Worker) → option_map number_of r ≡ cond b (Some w) None → r ≡ None → b ≡ false
-no_worker_of false w r e n = refl
-no_worker_of true w None e n = absurd cc
-no_worker_of true w (Some x) e n = absurd cc
+range_fails :
+    (n : Named) (ok : Bool) (f : EngineFault) → in_range_or_refused n ok ≡ Err f →
+    (ok ≡ false) × (f ≡ chain_fault n.place n.leg n.key OutOfRange)
+range_fails n true f e = absurd cc
+range_fails n false f e = (refl, cc)
+
+-- a check of ranges failed: the fault is that of the call's names
+pub failed :
+    (test : Named → Bool) (n m : Named) (r : Result (Unit {0}) EngineFault) (f : EngineFault) → n ≡ m →
+    r ≡ in_range_or_refused n (test n) → r ≡ Err f → (test m ≡ false) × (f ≡ chain_fault m.place m.leg m.key OutOfRange)
+failed test n m r f same checks is =
+    range_fails m (test m) f (ap (λ k. in_range_or_refused k (test k)) (sym same) ∙ sym checks ∙ is)
+
+range_passes : (n : Named) (ok : Bool) (u : Unit {0}) → in_range_or_refused n ok ≡ Ok u → ok ≡ true
+range_passes n true u e = refl
+range_passes n false u e = absurd cc
+
+-- a check of ranges passed
+pub passed :
+    (test : Named → Bool) (n m : Named) (r : Result (Unit {0}) EngineFault) (u : Unit {0}) → n ≡ m →
+    r ≡ in_range_or_refused n (test n) → r ≡ Ok u → test m ≡ true
+passed test n m r u same checks is =
+    range_passes m (test m) u (ap (λ k. in_range_or_refused k (test k)) (sym same) ∙ sym checks ∙ is)
+
+-- the worker of a number, or the refusal
+abbrev pub worker_or_refused : Named → ℕ → Result ℕ EngineFault
+worker_or_refused n w = result_and (in_range_or_refused n (is_worker w)) (Ok w)
+
+worker_fails :
+    (n : Named) (b : Bool) (w : ℕ) (r : Result Worker EngineFault) (f : EngineFault) →
+    result_map_both number_of (λ g. g) r ≡ result_and (in_range_or_refused n b) (Ok w) → r ≡ Err f →
+    (b ≡ false) × (f ≡ chain_fault n.place n.leg n.key OutOfRange)
+worker_fails n true w r f found is = absurd (cc (ap (result_map_both number_of (λ g. g)) is))
+worker_fails n false w r f found is = (refl, cc (ap (result_map_both number_of (λ g. g)) is))
 
 -- no worker has the number
-pub no_worker : (w : ℕ) (r : Option Worker) → option_map number_of r ≡ cond (is_worker w) (Some w) None → r ≡ None → is_worker w ≡ false
-no_worker w r = no_worker_of (is_worker w) w r
+pub no_worker :
+    (n m : Named) (w : ℕ) (r : Result Worker EngineFault) (f : EngineFault) → n ≡ m →
+    result_map_both number_of (λ g. g) r ≡ worker_or_refused n w → r ≡ Err f →
+    (is_worker w ≡ false) × (f ≡ chain_fault m.place m.leg m.key OutOfRange)
+no_worker n m w r f same found is =
+    worker_fails m (is_worker w) w r f (found ∙ ap (λ k. worker_or_refused k w) same) is
 
-worker_of : (b : Bool) (w : ℕ) (r : Option Worker) (x : Worker) → option_map number_of r ≡ cond b (Some w) None → r ≡ Some x → (b ≡ true) × (number_of x ≡ w)
-worker_of true w r x e is = (refl, cc (ap (option_map number_of) is))
-worker_of false w r x e is = absurd (cc (ap (option_map number_of) is))
+worker_passes :
+    (n : Named) (b : Bool) (w : ℕ) (r : Result Worker EngineFault) (x : Worker) →
+    result_map_both number_of (λ g. g) r ≡ result_and (in_range_or_refused n b) (Ok w) → r ≡ Ok x →
+    (b ≡ true) × (number_of x ≡ w)
+worker_passes n true w r x found is = (refl, cc (ap (result_map_both number_of (λ g. g)) is))
+worker_passes n false w r x found is = absurd (cc (ap (result_map_both number_of (λ g. g)) is))
 
 -- one has it
 pub worker_is :
-    (w : ℕ) (r : Option Worker) (x : Worker) → option_map number_of r ≡ cond (is_worker w) (Some w) None → r ≡ Some x →
-    (is_worker w ≡ true) × (number_of x ≡ w)
-worker_is w r x = worker_of (is_worker w) w r x
+    (n : Named) (w : ℕ) (r : Result Worker EngineFault) (x : Worker) →
+    result_map_both number_of (λ g. g) r ≡ worker_or_refused n w → r ≡ Ok x → (is_worker w ≡ true) × (number_of x ≡ w)
+worker_is n w r x found is = worker_passes n (is_worker w) w r x found is
 
 -- Places.
 
@@ -82,13 +123,13 @@ pub left_after :
     ◌≡◌ {A = WithEngine X} (r, s) told
 left_after {X} s t r told same is = ap (λ h. let u : WithEngine X = (r, h) in u) same ∙ is
 
--- Refusals at the head of a call, by the fault that it answers.
+-- Refusals at the head of a call, by the answer that it gives.
 
 pub refused_out :
-    {X : Type 0} (s : model.Engine) (ok : Bool) (f g : EngineFault) (next : Outcome X) → f ≡ g → ok ≡ false →
-    ComesTo s (Err f) s (check ok g next)
-refused_out {X} s ok f g next same failed =
-    ap (λ h. let t : WithEngine X = (Err h, s) in t) same ∙ out_of_range ok g next s failed
+    {X : Type 0} (s : model.Engine) (ok : Bool) (r : Result X EngineFault) (f g : EngineFault) (next : Outcome X) → r ≡ Err f →
+    f ≡ g → ok ≡ false → ComesTo s r s (check ok g next)
+refused_out {X} s ok r f g next is same failed =
+    answered s r (Err g) _ (is ∙ ap Err same) (out_of_range ok g next s failed)
 
 module _ {S : Type 0} (meaning : S → Meaning) (e : Engine S) (p : ℕ) (within : p < length e.places) where
   nothing_there : get_or e.places p None ≡ None → (engine_of meaning e).places p ≡ None

@@ -14,6 +14,7 @@ use Rattle.lives.proofs.Updates.{at_each}
 use Rattle.engine.specs.Legs.{on_result}
 use Rattle.engine.specs.ChainCalls.{no, handed, forked, joined, wrote}
 use Rattle.engine.specs.Drawn.{drawn}
+use Rattle.engine.specs.Naming.{naming}
 use Rattle.engine.specs.declared.named.Named.{Named}
 use Rattle.engine.proofs.Together.{both_check, both_check_not, both_open, both_result, both_fit, where_passed, where_leg}
 
@@ -60,10 +61,6 @@ unchanged :
 unchanged s p c here f = ap (λ t. (Err f, t)) (stays s p c here)
 
 -- The calls.
-
--- what a call names
-abbrev pub naming : ℕ → ℕ → ℕ → Named
-naming p l k = record { place = p; leg = l; key = k }
 
 pub hand_lifts :
     (depth p l w : ℕ) (s : Engine) (c : Chain) → (is_place p && is_leg l && is_worker w) ≡ true → s.places p ≡ Some c →

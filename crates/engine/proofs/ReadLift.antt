@@ -14,8 +14,9 @@ use Rattle.lives.specs.declared.calls.Call.TheVariants as call
 use Rattle.engine.specs.ChainCalls.{noted, read_on}
 use Rattle.engine.specs.Legs.{on_result}
 use Rattle.engine.specs.Drawn.{drawn}
+use Rattle.engine.specs.Naming.{naming}
 use Rattle.engine.specs.declared.named.Named.{Named}
-use Rattle.engine.proofs.Lifts.{WithEngine, outcome_from, naming, stays}
+use Rattle.engine.proofs.Lifts.{WithEngine, outcome_from, stays}
 use Rattle.engine.proofs.Together.{both_check, both_open, both_else, both_result, where_passed, where_leg}
 
 -- an answer, and the chain and the caches after it

@@ -1,4 +1,5 @@
 pub mod Workers
+pub mod Naming
 pub mod Legs
 pub mod Chains
 pub mod ChainCalls

@@ -1,16 +1,16 @@
 // A chain: its legs by their numbers, and its readings in order.
+ghost use Rattle.std.specs.Option.{option_map, option_copied};
 ghost use Rattle.std.specs.Prelude.{◌≡◌, ◌<◌, ◌+◌, length, OnErr, OnSome, nat_lt};
 ghost use Rattle.snapshot.specs.Limits.{chain_readings};
-ghost use Rattle.engine_parts.specs.Lists.{entries};
-ghost use Rattle.std.specs.Option.{option_map, option_copied};
 ghost use Rattle.lives.specs.Engines as model;
-ghost use Rattle.engine.specs.Legs.{open_leg_of, open_in, changed};
-ghost use Rattle.engine.specs.ChainCalls.{handed, forked, joined, wrote, looked_further, read_on};
-ghost use Rattle.engine.specs.Chains.{chain_of};
-ghost use Rattle.engine.specs.declared.leg.LegCall.TheVariants as call;
+ghost use Rattle.engine_parts.specs.Lists.{entries};
 ghost use Rattle.engine_parts.specs.Parts.{cached};
 ghost use Rattle.engine_parts.specs.WaitingNotices.{caches_of};
+ghost use Rattle.engine.specs.ChainCalls.{handed, forked, joined, wrote, looked_further, read_on};
+ghost use Rattle.engine.specs.Chains.{chain_of};
+ghost use Rattle.engine.specs.Legs.{open_leg_of, open_in, changed};
 ghost use Rattle.engine.specs.Workers.{number_of};
+ghost use Rattle.engine.specs.declared.leg.LegCall.TheVariants as call;
 
 use crate::leg::{Leg, LegCall, OpenLeg};
 use crate::named::Named;
@@ -66,6 +66,7 @@ impl Chain {
         if self.opened >= LEGS {
             return Err(named.refused(Refusal::TooManyLegs));
         }
+        // The leg is open, so this is not refused; nor is it below.
         let _ = self.change(named.leg, LegCall::End);
         Ok(self.open(next))
     }
@@ -123,14 +124,12 @@ impl Chain {
         if self.opened >= LEGS {
             return Err(named.refused(Refusal::TooManyLegs));
         }
-        match open.joined(other, worker) {
-            Ok(both) => {
-                let _ = self.change(named.leg, LegCall::End);
-                let _ = self.change(second, LegCall::End);
-                Ok(self.open(both))
-            }
-            Err(refusal) => Err(named.refused(refusal)),
-        }
+        let both = open
+            .joined(other, worker)
+            .map_err(|refusal| named.refused(refusal))?;
+        let _ = self.change(named.leg, LegCall::End);
+        let _ = self.change(second, LegCall::End);
+        Ok(self.open(both))
     }
 
     // Sets a key's value in a leg's write set.
@@ -145,10 +144,8 @@ impl Chain {
             key: named.key,
             value,
         };
-        match self.change(named.leg, LegCall::Write { write }) {
-            Ok(()) => Ok(()),
-            Err(refusal) => Err(named.refused(refusal)),
-        }
+        self.change(named.leg, LegCall::Write { write })
+            .map_err(|refusal| named.refused(refusal))
     }
 
     // Answers a key's value from the leg's write set, or else from a reading that the leg has made, or else from the cache

@@ -3,22 +3,21 @@ ghost use Rattle.std.specs.Prelude.{◌≡◌, Ok, OnErr, length};
 ghost use Rattle.snapshot.specs.Refusals.{own_fault, unnamed};
 ghost use Rattle.snapshot.specs.declared.fault.Layer.TheVariants as layer;
 ghost use Rattle.snapshot.specs.declared.fault.Refusal.TheVariants.{NoSuchNotice};
-ghost use Rattle.engine_parts.specs.WaitingNotices.{caches_of};
 ghost use Rattle.lives.specs.Caches.{with_notice};
-ghost use Rattle.lives.specs.Updates.{with_at};
 ghost use Rattle.lives.specs.Engines as model;
+ghost use Rattle.lives.specs.Updates.{with_at};
 ghost use Rattle.lives.specs.declared.calls.Call.TheVariants as call;
+ghost use Rattle.engine_parts.specs.WaitingNotices.{caches_of};
 ghost use Rattle.engine.specs.Drawn.{drawn};
 ghost use Rattle.engine.specs.Engines.{engine_of};
 
 use crate::chain::Chain;
 use crate::named::Named;
-use crate::worker::Worker;
 use engine_parts::cache::{CACHES, Cache};
 use engine_parts::notices::Notices;
 use lives::records::Notice;
-use snapshot::fault::{EngineFault, Fault, Layer, NOT_NAMED, Refusal};
-use snapshot::limits::{PLACES, is_leg, is_place, is_worker};
+use snapshot::fault::{EngineFault, Fault, Layer, Refusal};
+use snapshot::limits::{PLACES, is_leg, is_worker};
 use store::traits::Store;
 
 // How many chains can be open at a time.
@@ -52,17 +51,9 @@ impl<S: Store> Engine<S> {
         ensures step { (result, engine_of S.Reads.meaning self.new) ≡ drawn S.Store.depth (call.Begin place worker) (engine_of S.Reads.meaning self.old) }
         ensures unchanged { OnErr result (self.new ≡ self.old) }
     {
-        let named = Named {
-            place,
-            leg: NOT_NAMED,
-            key: NOT_NAMED,
-        };
-        let Some(worker) = Worker::numbered(worker) else {
-            return Err(named.refused(Refusal::OutOfRange));
-        };
-        if !is_place(place) {
-            return Err(named.refused(Refusal::OutOfRange));
-        }
+        let named = Named::place(place);
+        named.check_place()?;
+        let worker = named.worker(worker)?;
         if self.places[place as usize].is_some() {
             return Err(named.refused(Refusal::PlaceOccupied));
         }
@@ -76,17 +67,9 @@ impl<S: Store> Engine<S> {
         ensures step { (result, engine_of S.Reads.meaning self.new) ≡ drawn S.Store.depth (call.Hand place leg worker) (engine_of S.Reads.meaning self.old) }
         ensures unchanged { OnErr result (self.new ≡ self.old) }
     {
-        let named = Named {
-            place,
-            leg,
-            key: NOT_NAMED,
-        };
-        let Some(worker) = Worker::numbered(worker) else {
-            return Err(named.refused(Refusal::OutOfRange));
-        };
-        if !named.has_leg() {
-            return Err(named.refused(Refusal::OutOfRange));
-        }
+        let named = Named::leg(place, leg);
+        named.check_leg()?;
+        let worker = named.worker(worker)?;
         let Some(chain) = &mut self.places[place as usize] else {
             return Err(named.refused(Refusal::NotOpen));
         };
@@ -105,20 +88,10 @@ impl<S: Store> Engine<S> {
         ensures step { (result, engine_of S.Reads.meaning self.new) ≡ drawn S.Store.depth (call.Fork place leg first_worker second_worker) (engine_of S.Reads.meaning self.old) }
         ensures unchanged { OnErr result (self.new ≡ self.old) }
     {
-        let named = Named {
-            place,
-            leg,
-            key: NOT_NAMED,
-        };
-        let Some(first) = Worker::numbered(first_worker) else {
-            return Err(named.refused(Refusal::OutOfRange));
-        };
-        let Some(second) = Worker::numbered(second_worker) else {
-            return Err(named.refused(Refusal::OutOfRange));
-        };
-        if !named.has_leg() {
-            return Err(named.refused(Refusal::OutOfRange));
-        }
+        let named = Named::leg(place, leg);
+        named.check_leg()?;
+        let first = named.worker(first_worker)?;
+        let second = named.worker(second_worker)?;
         let Some(chain) = &mut self.places[place as usize] else {
             return Err(named.refused(Refusal::NotOpen));
         };
@@ -139,20 +112,10 @@ impl<S: Store> Engine<S> {
         ensures step { (result, engine_of S.Reads.meaning self.new) ≡ drawn S.Store.depth (call.Join place first_leg second_leg worker) (engine_of S.Reads.meaning self.old) }
         ensures unchanged { OnErr result (self.new ≡ self.old) }
     {
-        let named = Named {
-            place,
-            leg: first_leg,
-            key: NOT_NAMED,
-        };
-        let Some(worker) = Worker::numbered(worker) else {
-            return Err(named.refused(Refusal::OutOfRange));
-        };
-        if !named.has_leg() {
-            return Err(named.refused(Refusal::OutOfRange));
-        }
-        if !is_leg(second_leg) {
-            return Err(named.refused(Refusal::OutOfRange));
-        }
+        let named = Named::leg(place, first_leg);
+        named.check_leg()?;
+        named.check(is_leg(second_leg))?;
+        let worker = named.worker(worker)?;
         let Some(chain) = &mut self.places[place as usize] else {
             return Err(named.refused(Refusal::NotOpen));
         };
@@ -167,9 +130,7 @@ impl<S: Store> Engine<S> {
         ensures unchanged { OnErr result (self.new ≡ self.old) }
     {
         let named = Named { place, leg, key };
-        if !named.has_leg_and_key() {
-            return Err(named.refused(Refusal::OutOfRange));
-        }
+        named.check_key()?;
         let Some(chain) = &mut self.places[place as usize] else {
             return Err(named.refused(Refusal::NotOpen));
         };
@@ -183,9 +144,7 @@ impl<S: Store> Engine<S> {
         ensures unchanged { OnErr result (self.new ≡ self.old) }
     {
         let named = Named { place, leg, key };
-        if !named.has_leg_and_key() {
-            return Err(named.refused(Refusal::OutOfRange));
-        }
+        named.check_key()?;
         let Some(chain) = &mut self.places[place as usize] else {
             return Err(named.refused(Refusal::NotOpen));
         };
@@ -197,14 +156,8 @@ impl<S: Store> Engine<S> {
         ensures step { (result, engine_of S.Reads.meaning self.new) ≡ drawn S.Store.depth (call.Abandon place) (engine_of S.Reads.meaning self.old) }
         ensures unchanged { OnErr result (self.new ≡ self.old) }
     {
-        let named = Named {
-            place,
-            leg: NOT_NAMED,
-            key: NOT_NAMED,
-        };
-        if !is_place(place) {
-            return Err(named.refused(Refusal::OutOfRange));
-        }
+        let named = Named::place(place);
+        named.check_place()?;
         if self.places[place as usize].is_none() {
             return Err(named.refused(Refusal::NotOpen));
         }

@@ -1,9 +1,9 @@
 // A leg of a chain: one function's run in it.
-ghost use Rattle.std.specs.Prelude.{◌≡◌, OnErr};
 ghost use Rattle.std.specs.Option.{option_map, option_copied};
+ghost use Rattle.std.specs.Prelude.{◌≡◌, OnErr};
 ghost use Rattle.std.specs.Result.{result_map_both};
-ghost use Rattle.engine.specs.Workers.{number_of};
 ghost use Rattle.engine.specs.Legs.{joined_leg, leg_of, open_leg_of, open_in, changed};
+ghost use Rattle.engine.specs.Workers.{number_of};
 
 use crate::worker::Worker;
 use engine_parts::write_set::WriteSet;
@@ -17,13 +17,6 @@ pub(crate) struct OpenLeg {
     pub(crate) worker: Worker,
     pub(crate) interval: Interval,
     pub(crate) writes: WriteSet,
-}
-
-#[derive(Clone, Copy)]
-pub(crate) enum Leg {
-    Unused,
-    Open(OpenLeg),
-    Ended,
 }
 
 impl OpenLeg {
@@ -40,6 +33,14 @@ impl OpenLeg {
             writes,
         })
     }
+}
+
+// A leg by its number: it is unused until it is opened.
+#[derive(Clone, Copy)]
+pub(crate) enum Leg {
+    Unused,
+    Open(OpenLeg),
+    Ended,
 }
 
 // What a call does to a leg that it names.

@@ -1,10 +1,14 @@
-// The place, leg and key that a call names, for the faults with which it is refused.
-ghost use Rattle.std.specs.Prelude.{◌≡◌, ◌&&◌};
-ghost use Rattle.snapshot.specs.Limits.{is_place, is_leg, is_key};
-ghost use Rattle.snapshot.specs.Refusals.{around_store};
+// The place, leg and key that a call names: whether they are in range, and the faults with which the call is refused.
+ghost use Rattle.std.specs.Prelude.{◌≡◌, Ok};
+ghost use Rattle.std.specs.Result.{result_and, result_map_both};
+ghost use Rattle.snapshot.specs.Limits.{is_worker};
+ghost use Rattle.snapshot.specs.Refusals.{not_named, around_store};
 ghost use Rattle.lives.specs.Steps.{chain_fault};
+ghost use Rattle.engine.specs.Naming.{naming, in_range_or_refused, has_place, has_leg, has_key};
+ghost use Rattle.engine.specs.Workers.{number_of};
 
-use snapshot::fault::{EngineFault, Fault, Layer, Refusal};
+use crate::worker::Worker;
+use snapshot::fault::{EngineFault, Fault, Layer, NOT_NAMED, Refusal};
 use snapshot::limits::{is_key, is_leg, is_place};
 
 #[derive(Clone, Copy)]
@@ -15,18 +19,64 @@ pub(crate) struct Named {
 }
 
 impl Named {
-    // Are place and leg in range?
-    pub(crate) fn has_leg(self) -> bool
-        ensures { result ≡ (is_place self.place && is_leg self.leg) }
+    // What a call names that names a place only.
+    pub(crate) fn place(place: u8) -> Named
+        ensures { result ≡ naming place not_named not_named }
     {
-        is_place(self.place) && is_leg(self.leg)
+        Named::leg(place, NOT_NAMED)
     }
 
-    // Are place, leg and key in range?
-    pub(crate) fn has_leg_and_key(self) -> bool
-        ensures { result ≡ (is_place self.place && is_leg self.leg && is_key self.key) }
+    // What a call names that names a leg.
+    pub(crate) fn leg(place: u8, leg: u8) -> Named
+        ensures { result ≡ naming place leg not_named }
     {
-        self.has_leg() && is_key(self.key)
+        Named {
+            place,
+            leg,
+            key: NOT_NAMED,
+        }
+    }
+
+    // Refused where there is no such place.
+    pub(crate) fn check_place(self) -> Result<(), EngineFault>
+        ensures { result ≡ in_range_or_refused self (has_place self) }
+    {
+        self.check(is_place(self.place))
+    }
+
+    // Refused where there is no such place or leg.
+    pub(crate) fn check_leg(self) -> Result<(), EngineFault>
+        ensures { result ≡ in_range_or_refused self (has_leg self) }
+    {
+        self.check(is_place(self.place) && is_leg(self.leg))
+    }
+
+    // Refused where there is no such place, leg or key.
+    pub(crate) fn check_key(self) -> Result<(), EngineFault>
+        ensures { result ≡ in_range_or_refused self (has_key self) }
+    {
+        self.check(is_place(self.place) && is_leg(self.leg) && is_key(self.key))
+    }
+
+    // Refused as out of range unless the test passed.
+    pub(crate) fn check(self, in_range: bool) -> Result<(), EngineFault>
+        ensures { result ≡ in_range_or_refused self in_range }
+    {
+        if in_range {
+            Ok(())
+        } else {
+            Err(self.refused(Refusal::OutOfRange))
+        }
+    }
+
+    // The worker of this number, or the refusal where there is none.
+    pub(crate) fn worker(self, number: u8) -> Result<Worker, EngineFault>
+        ensures { result_map_both number_of (λ f. f) result ≡ result_and (in_range_or_refused self (is_worker number)) (Ok number) }
+    {
+        match Worker::numbered(number) {
+            Some(worker) => Ok(worker),
+            None => Err(self.refused(Refusal::OutOfRange)),
+        }
     }
 
     // The fault of a call that the engine itself refuses.

@@ -5,8 +5,8 @@ use Rattle.engine.specs.Legs.{open_leg_of, open_in, joined_leg}
 use Rattle.engine.specs.Workers.{number_of}
 use Rattle.engine.proofs.chain.Chain.join.Goals as goal
 
-pub returns-in-Ok-clause-made : goal.returns-in-Ok-clause-made
-returns-in-Ok-clause-made c =
+pub returns-clause-made : goal.returns-clause-made
+returns-clause-made c =
     let n = c.args.named in
     let w = number_of c.args.worker in
     let chain = chain_of c.args.self.now in
@@ -17,7 +17,7 @@ returns-in-Ok-clause-made c =
     let second : open_in (chain.legs j) ≡ Some other = search rules in
     let apart : eqb n.leg j ≡ false = search rules in
     let room : ltb chain.opened 16 ≡ true = search rules in
-    let both : joined_leg w one other ≡ Ok (open_leg_of c.in-Ok.both) = search rules in
-    let ends = both_end chain n.leg j _ _ apart first second _ _ c.change.ensures.after c.change-in-Ok.ensures.after in
+    let both : joined_leg w one other ≡ Ok (open_leg_of c.in_ok-both.both) = search rules in
+    let ends = both_end chain n.leg j _ _ apart first second _ _ c.change.ensures.after c.change-2.ensures.after in
     let number : c.open.result ≡ chain.opened = search rules in
-    legs_joined n j w chain one other (open_leg_of c.in-Ok.both) first second apart room both _ _ _ number ends c.open.ensures.after
+    legs_joined n j w chain one other (open_leg_of c.in_ok-both.both) first second apart room both _ _ _ number ends c.open.ensures.after

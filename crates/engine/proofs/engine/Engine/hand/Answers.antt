@@ -1,38 +1,56 @@
-use Rattle.std.proofs.Common.{◌≡◌, ◌<◌, ◌&&◌, true, Some, length, ap, ◌∙◌, rules, arith}
+use Rattle.std.proofs.Common.{◌≡◌, ◌<◌, ◌&&◌, true, Some, Err, length, ap, ◌∙◌, arith}
 use Rattle.std.proofs.lemmas.Bool.Decides.{nat_tests}
+use Rattle.std.proofs.lemmas.Result.{err_from_is_err_and}
 use Rattle.snapshot.specs.Limits.{is_place, is_leg, is_worker}
 use Rattle.snapshot.specs.Refusals.{not_named}
+use Rattle.snapshot.specs.declared.fault.Refusal.TheVariants.{NotOpen}
+use Rattle.lives.specs.Steps.{chain_fault}
 use Rattle.engine.specs.Chains.{chain_of}
 use Rattle.engine.specs.ChainCalls.{handed}
 use Rattle.engine.specs.Engines.{engine_of}
-use Rattle.engine.proofs.EngineLemmas.{no_worker, worker_is, stands, called, refused_out, refused_missing}
-use Rattle.engine.proofs.Lifts.{naming, hand_lifts}
+use Rattle.engine.specs.Naming.{naming, has_leg}
+use Rattle.engine.specs.Workers.{number_of}
+use Rattle.engine.proofs.EngineLemmas.{failed, passed, no_worker, worker_is, stands, called, refused_out, refused_missing}
+use Rattle.engine.proofs.Lifts.{hand_lifts}
 use Rattle.engine.proofs.engine.Engine.hand.Goals as goal
+
+pub returns-in_err-check_leg-clause-step : goal.returns-in_err-check_leg-clause-step
+returns-in_err-check_leg-clause-step g c =
+    let out = failed has_leg _ _ _ _ c.leg-named.ensures c.check_leg.ensures c.in_err-check_leg.was in
+    let exit = err_from_is_err_and c.from_residual.result c.from_residual.ensures.1 in
+    refused_out _ _ _ _ _ _ (exit.1 ∙ ap Err exit.2) out.1 (grind (arith, nat_tests))
+
+pub returns-in_err-worker-clause-step : goal.returns-in_err-worker-clause-step
+returns-in_err-worker-clause-step g c =
+    let out = no_worker _ _ c.args.worker _ _ c.leg-named.ensures c.worker.ensures c.in_err-worker.was in
+    let exit = err_from_is_err_and c.from_residual-in_err-worker.result c.from_residual-in_err-worker.ensures.1 in
+    refused_out _ _ _ _ _ _ (exit.1 ∙ ap Err exit.2) out.1 (grind (arith, nat_tests))
 
 pub returns-in_default-clause-step : goal.returns-in_default-clause-step
 returns-in_default-clause-step g c =
-    let out = no_worker c.args.worker c.numbered.result c.numbered.ensures c.in_default.is in
-    refused_out _ _ _ _ _ c.refused.ensures (grind (arith, nat_tests))
-
-pub returns-then-not-has_leg-clause-step : goal.returns-then-not-has_leg-clause-step
-returns-then-not-has_leg-clause-step g c =
-    refused_out _ _ _ _ _ c.refused-then-not-has_leg.ensures (grind (arith, nat_tests))
-
-pub returns-in_default-places-clause-step : goal.returns-in_default-places-clause-step
-returns-in_default-places-clause-step g c =
-    let found = worker_is c.args.worker c.numbered.result c.in-Some.worker c.numbered.ensures c.in-Some.is in
-    let within : c.args.place < length c.args.self.now.places = search rules in
-    refused_missing g.S.Reads.meaning c.args.self.now c.args.place within _ _ _ _ _ _ c.refused-in_default-places.ensures (grind (arith, nat_tests)) c.in_default-places.is
+    let e = c.args.self.now in
+    let p = c.args.place in
+    let leg = passed has_leg _ _ _ _ c.leg-named.ensures c.check_leg.ensures c.in_ok-check_leg.was in
+    let worker = worker_is _ c.args.worker _ _ c.worker.ensures c.in_ok-worker.was in
+    let within : p < length e.places = grind (arith, nat_tests) in
+    refused_missing g.S.Reads.meaning e p within _ _ _ _ _ _
+    (c.refused.ensures ∙ ap (λ n. chain_fault n.place n.leg n.key NotOpen) c.leg-named.ensures) (grind (arith, nat_tests)) c.in_default.is
 
 pub returns-clause-step : goal.returns-clause-step
 returns-clause-step g c =
     let e = c.args.self.now in
     let p = c.args.place in
-    let chain = c.in-Some-places.chain in
-    let found = worker_is c.args.worker c.numbered.result c.in-Some.worker c.numbered.ensures c.in-Some.is in
-    let range : (is_place p && is_leg c.args.leg && is_worker c.args.worker) ≡ true = grind (arith, nat_tests) in
-    let within : p < length e.places = search rules in
-    let there = stands g.S.Reads.meaning e p within (Some chain) c.in-Some-places.is in
+    let l = c.args.leg in
+    let n = naming p l not_named in
+    let w = number_of c.in_ok-worker.worker in
+    let chain = c.in-Some.chain in
+    let leg = passed has_leg _ _ _ _ c.leg-named.ensures c.check_leg.ensures c.in_ok-check_leg.was in
+    let worker = worker_is _ c.args.worker _ _ c.worker.ensures c.in_ok-worker.was in
+    let range : (is_place p && is_leg l && is_worker c.args.worker) ≡ true = grind (arith, nat_tests) in
+    let within : p < length e.places = grind (arith, nat_tests) in
+    let there = stands g.S.Reads.meaning e p within (Some chain) c.in-Some.is in
     called g.S.Reads.meaning e p within c.hand.result c.hand.new.self _ _
-    (hand_lifts g.S.Store.depth p c.args.leg c.args.worker (engine_of g.S.Reads.meaning e) (chain_of chain) range there)
-    (c.hand.ensures.made ∙ ap (λ w. handed (naming p c.args.leg not_named) w (chain_of chain)) found.1)
+    (hand_lifts g.S.Store.depth p l c.args.worker (engine_of g.S.Reads.meaning e) (chain_of chain) range there)
+    (c.hand.ensures.made
+    ∙ ap (λ k. handed k w (chain_of chain)) c.leg-named.ensures
+    ∙ ap (λ v. handed n v (chain_of chain)) worker.1)
