@@ -1,29 +1,28 @@
 -- A notice told to the cache of its worker.
-use mathlib.Core.Path.{fun_ext}
-use Rattle.std.proofs.Common.{◌≡◌, ◌<◌, ◌≤◌, [], List, length, get_or, set, refl, sym, ap, ◌∙◌}
+use Rattle.std.proofs.Common.{◌≡◌, ◌<◌, ◌≤◌, [], List, length, get_or, set, sym, ap, ◌∙◌}
 use Rattle.engine_parts.proofs.ItemLemmas.{item_set, item_there, item_past}
-use Rattle.engine_parts.specs.Parts.{cached}
-use Rattle.engine_parts.specs.WaitingNotices.{caches_of}
+use Rattle.engine_parts.specs.Caches.{cache_of}
+use Rattle.engine_parts.specs.Caches.{caches_of}
 use Rattle.engine_parts.specs.declared.cache.Cache.{Cache}
-use Rattle.lives.proofs.Updates.{at_each}
+use Rattle.lives.proofs.Updates.{at_same_value}
 use Rattle.lives.specs.Caches.{with_notice}
 use Rattle.lives.specs.Updates.{with_at}
 use Rattle.lives.specs.declared.records.Notice.{Notice}
 
 pub told_worker :
     (n : Notice) (caches : List Cache) (d after : Cache) → n.worker < length caches →
-    cached after ≡ with_notice n (cached (get_or caches n.worker d)) →
+    cache_of after ≡ with_notice n (cache_of (get_or caches n.worker d)) →
     caches_of (set caches n.worker after) ≡ with_at n.worker (with_notice n (caches_of caches n.worker)) (caches_of caches)
 told_worker n caches d after within took =
-    item_set cached [] caches n.worker after within
+    item_set cache_of [] caches n.worker after within
     ∙ ap
     (λ c. with_at n.worker c (caches_of caches))
-    (took ∙ ap (with_notice n) (sym (item_there cached [] caches n.worker d within)))
+    (took ∙ ap (with_notice n) (sym (item_there cache_of [] caches n.worker d within)))
 
 -- of a worker that is not one of the eight there is no cache, and nothing changes
 pub told_nobody :
     (n : Notice) (caches : List Cache) → length caches ≤ n.worker →
     caches_of caches ≡ with_at n.worker (with_notice n (caches_of caches n.worker)) (caches_of caches)
 told_nobody n caches past =
-    let none : caches_of caches n.worker ≡ [] = item_past cached [] caches n.worker past in
-    sym (fun_ext (at_each (λ j c. c ≡ caches_of caches j) n.worker _ (caches_of caches) (ap (with_notice n) none ∙ sym none) (λ j. refl)))
+    let none : caches_of caches n.worker ≡ [] = item_past cache_of [] caches n.worker past in
+    sym (at_same_value n.worker _ (caches_of caches) (ap (with_notice n) none ∙ sym none))

@@ -5,9 +5,9 @@ use Rattle.snapshot.specs.declared.fault.EngineFault.{EngineFault}
 use Rattle.engine_parts.proofs.ItemLemmas.{item_set}
 use Rattle.lives.proofs.Updates.{at_other}
 use Rattle.lives.specs.Engines as model
-use Rattle.engine.specs.ChainCalls.{joined}
+use Rattle.engine.specs.ChainCalls.{after_join}
 use Rattle.engine.specs.Chains.{chain_of}
-use Rattle.engine.specs.Legs.{leg_of, open_leg_of, open_in, changed, joined_leg}
+use Rattle.engine.specs.Legs.{leg_of, open_leg_of, open_in, after_call, joined_leg}
 use Rattle.engine.specs.declared.chain.Chain.{Chain}
 use Rattle.engine.specs.declared.leg.Leg.{Leg}
 use Rattle.engine.specs.declared.leg.Leg.TheVariants as leg
@@ -36,7 +36,7 @@ leg_opened c o lt =
     ∙ ap (C (model.open_leg (open_leg_of o) (chain_of c)).legs) (add-one c.opened)
 
 -- a leg that is open ends
-pub open_ends : (state : model.LegState) (o : model.OpenLeg) → open_in state ≡ Some o → (changed call.End state).1 ≡ model.ended
+pub open_ends : (state : model.LegState) (o : model.OpenLeg) → open_in state ≡ Some o → (after_call call.End state).1 ≡ model.ended
 open_ends model.unused o e = absurd cc
 open_ends (model.running l) o e = refl
 open_ends model.ended o e = absurd cc
@@ -45,13 +45,13 @@ open_ends model.ended o e = absurd cc
 pub both_end :
     (c : model.Chain) (l j : ℕ) (first second : model.OpenLeg) → eqb l j ≡ false → open_in (c.legs l) ≡ Some first →
     open_in (c.legs j) ≡ Some second → (one two : model.Chain) →
-    one ≡ model.with_leg l (changed call.End (c.legs l)).1 c → two ≡ model.with_leg j (changed call.End (one.legs j)).1 one →
+    one ≡ model.with_leg l (after_call call.End (c.legs l)).1 c → two ≡ model.with_leg j (after_call call.End (one.legs j)).1 one →
     two ≡ model.end_leg j (model.end_leg l c)
 both_end c l j first second apart open_l open_j one two e f =
     let ended_one : one ≡ model.end_leg l c = e ∙ ap (λ state. model.with_leg l state c) (open_ends (c.legs l) first open_l) in
     let still : one.legs j ≡ c.legs j = ap (λ m. m.legs j) ended_one ∙ at_other l model.ended c.legs j (λ same. false≢true (sym apart ∙ eq-eqb l j (sym same))) in
     f
-    ∙ ap (λ state. model.with_leg j (changed call.End state).1 one) still
+    ∙ ap (λ state. model.with_leg j (after_call call.End state).1 one) still
     ∙ ap (λ state. model.with_leg j state one) (open_ends (c.legs j) second open_j)
     ∙ ap (model.with_leg j model.ended) ended_one
 
@@ -59,14 +59,14 @@ both_end c l j first second apart open_l open_j one two e f =
 joins :
     (n : Named) (j w : ℕ) (c : model.Chain) (first second both : model.OpenLeg) → open_in (c.legs n.leg) ≡ Some first →
     open_in (c.legs j) ≡ Some second → eqb n.leg j ≡ false → ltb c.opened 16 ≡ true → joined_leg w first second ≡ Ok both →
-    joined n j w c ≡ (Ok c.opened, model.open_leg both (model.end_leg j (model.end_leg n.leg c)))
+    after_join n j w c ≡ (Ok c.opened, model.open_leg both (model.end_leg j (model.end_leg n.leg c)))
 joins n j w c first second both open_l open_j apart room together = rw (open_l, open_j, apart, room, together) refl
 
 pub legs_joined :
     (n : Named) (j w : ℕ) (c : model.Chain) (first second both : model.OpenLeg) → open_in (c.legs n.leg) ≡ Some first →
     open_in (c.legs j) ≡ Some second → eqb n.leg j ≡ false → ltb c.opened 16 ≡ true → joined_leg w first second ≡ Ok both →
     (number : ℕ) (ended after : model.Chain) → number ≡ c.opened → ended ≡ model.end_leg j (model.end_leg n.leg c) →
-    after ≡ model.open_leg both ended → (Ok number, after) ≡ joined n j w c
+    after ≡ model.open_leg both ended → (Ok number, after) ≡ after_join n j w c
 legs_joined n j w c first second both open_l open_j apart room together number ended after is_next both_ended opened =
     let P : ℕ → model.Chain → Result ℕ EngineFault × model.Chain = λ k chain. (Ok k, chain) in
     ap (λ k. P k after) is_next

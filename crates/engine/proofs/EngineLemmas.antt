@@ -7,7 +7,8 @@ use Rattle.snapshot.specs.Limits.{is_worker}
 use Rattle.snapshot.specs.declared.fault.EngineFault.{EngineFault}
 use Rattle.snapshot.specs.declared.fault.Refusal.TheVariants.{OutOfRange}
 use Rattle.store.specs.Meaning.{Meaning}
-use Rattle.engine_parts.specs.WaitingNotices.{told, caches_of}
+use Rattle.engine_parts.specs.Caches.{caches_of}
+use Rattle.engine_parts.specs.WaitingNotices.{notices_of}
 use Rattle.engine_parts.specs.declared.cache.Cache.{Cache}
 use Rattle.engine_parts.specs.declared.notices.Notices.{Notices}
 use Rattle.engine_parts.proofs.ItemLemmas.{item_set, item_there}
@@ -16,15 +17,16 @@ use Rattle.lives.specs.Engines as model
 use Rattle.engine.specs.Chains.{chain_of}
 use Rattle.engine.specs.Engines.{engine_of}
 use Rattle.engine.specs.Naming.{in_range_or_refused}
+use Rattle.engine.specs.StepOf.{outcome_of}
 use Rattle.engine.specs.Workers.{number_of}
 use Rattle.engine.specs.declared.chain.Chain.{Chain}
 use Rattle.engine.specs.declared.engine.Engine.{Engine}
 use Rattle.engine.specs.declared.named.Named.{Named}
 use Rattle.engine.specs.declared.worker.Worker.{Worker}
 use Rattle.lives.specs.Steps.{Outcome, check, with_chain, with_open_leg, chain_fault}
-use Rattle.engine.proofs.ReadLift.{with_caches}
-use Rattle.engine.proofs.CallLifts.{ComesTo, out_of_range, no_chain, no_chain_at_all}
-use Rattle.engine.proofs.Lifts.{WithChain, WithEngine, Lifts, outcome_from}
+use Rattle.engine.proofs.ReadStep.{with_caches}
+use Rattle.engine.proofs.PlainSteps.{ComesTo, out_of_range, no_chain, no_chain_at_all}
+use Rattle.engine.proofs.ChainSteps.{WithChain, WithEngine, IsStepOf}
 
 -- Numbers in range.
 
@@ -102,10 +104,10 @@ module _ {S : Type 0} (meaning : S → Meaning) (e : Engine S) (p : ℕ) (within
 
   -- what a call makes of the chain there, it makes of the engine
   pub called :
-      {X : Type 0} (r : Result X EngineFault) (after : Chain) (made : WithChain X) (told : WithEngine X) →
-      Lifts (engine_of meaning e) p made told → ◌≡◌ {A = WithChain X} (r, chain_of after) made →
-      ◌≡◌ {A = WithEngine X} (r, engine_of meaning (record e { places = set e.places p (Some after) })) told
-  called {X} r after made told lift is = ap (λ s. let t : WithEngine X = (r, s) in t) (place_set (Some after)) ∙ lift r (chain_of after) is
+      {X : Type 0} (r : Result X EngineFault) (after : Chain) (made : WithChain X) (step : WithEngine X) →
+      IsStepOf (engine_of meaning e) p made step → ◌≡◌ {A = WithChain X} (r, chain_of after) made →
+      ◌≡◌ {A = WithEngine X} (r, engine_of meaning (record e { places = set e.places p (Some after) })) step
+  called {X} r after made step lift is = ap (λ s. let t : WithEngine X = (r, s) in t) (place_set (Some after)) ∙ lift r (chain_of after) is
 
   -- a place that was looked at and left
   pub left : engine_of meaning (record e { places = set e.places p (get_or e.places p None) }) ≡ engine_of meaning e
@@ -114,14 +116,14 @@ module _ {S : Type 0} (meaning : S → Meaning) (e : Engine S) (p : ℕ) (within
 -- An answer, or an engine, in the place of one that is the same.
 
 pub answered :
-    {X : Type 0} (s : model.Engine) (r q : Result X EngineFault) (told : WithEngine X) → r ≡ q → ◌≡◌ {A = WithEngine X} (q, s) told →
-    ◌≡◌ {A = WithEngine X} (r, s) told
-answered {X} s r q told same is = ap (λ h. let t : WithEngine X = (h, s) in t) same ∙ is
+    {X : Type 0} (s : model.Engine) (r q : Result X EngineFault) (step : WithEngine X) → r ≡ q → ◌≡◌ {A = WithEngine X} (q, s) step →
+    ◌≡◌ {A = WithEngine X} (r, s) step
+answered {X} s r q step same is = ap (λ h. let t : WithEngine X = (h, s) in t) same ∙ is
 
 pub left_after :
-    {X : Type 0} (s t : model.Engine) (r : Result X EngineFault) (told : WithEngine X) → s ≡ t → ◌≡◌ {A = WithEngine X} (r, t) told →
-    ◌≡◌ {A = WithEngine X} (r, s) told
-left_after {X} s t r told same is = ap (λ h. let u : WithEngine X = (r, h) in u) same ∙ is
+    {X : Type 0} (s t : model.Engine) (r : Result X EngineFault) (step : WithEngine X) → s ≡ t → ◌≡◌ {A = WithEngine X} (r, t) step →
+    ◌≡◌ {A = WithEngine X} (r, s) step
+left_after {X} s t r step same is = ap (λ h. let u : WithEngine X = (r, h) in u) same ∙ is
 
 -- Refusals at the head of a call, by the answer that it gives.
 
@@ -140,12 +142,11 @@ module _ {S : Type 0} (meaning : S → Meaning) (e : Engine S) (p : ℕ) (within
       ok ≡ true → get_or e.places p None ≡ None →
       ◌≡◌ {A = WithEngine X}
       (Err f, engine_of meaning (record e { places = set e.places p (get_or e.places p None) }))
-      (outcome_from (engine_of meaning e) (check ok g (with_open_leg ((engine_of meaning e).places p) l h next)))
+      (outcome_of (engine_of meaning e) (check ok g (with_open_leg ((engine_of meaning e).places p) l h next)))
   refused_missing {X} ok f g h l next same passed none =
       let s = engine_of meaning e in
-      ap (λ t. let r : WithEngine X = (Err f, t) in r) (left meaning e p within)
-      ∙ ap (λ k. let r : WithEngine X = (Err k, s) in r) same
-      ∙ no_chain ok g (s.places p) l h next s passed (nothing_there none)
+      left_after _ s (Err f) _ (left meaning e p within)
+      (answered s (Err f) (Err h) _ (ap Err same) (no_chain ok g (s.places p) l h next s passed (nothing_there none)))
 
   pub refused_at_all :
       {X : Type 0} (ok : Bool) (f g h : EngineFault) (next : model.Chain → Outcome X) → f ≡ h → ok ≡ true →
@@ -157,10 +158,10 @@ module _ {S : Type 0} (meaning : S → Meaning) (e : Engine S) (p : ℕ) (within
 
   -- another chain stands there, and the caches are others
   pub read_called :
-      (r : Result ℕ EngineFault) (after : Chain) (caches : List Cache) (told : WithEngine ℕ) →
-      ◌≡◌ {A = WithEngine ℕ} (r, with_caches (engine_of meaning e) p (chain_of after, caches_of caches)) told →
-      ◌≡◌ {A = WithEngine ℕ} (r, engine_of meaning (record e { places = set e.places p (Some after); caches = caches })) told
-  read_called r after caches told is =
+      (r : Result ℕ EngineFault) (after : Chain) (caches : List Cache) (step : WithEngine ℕ) →
+      ◌≡◌ {A = WithEngine ℕ} (r, with_caches (engine_of meaning e) p (chain_of after, caches_of caches)) step →
+      ◌≡◌ {A = WithEngine ℕ} (r, engine_of meaning (record e { places = set e.places p (Some after); caches = caches })) step
+  read_called r after caches step is =
       let s = engine_of meaning e in
       let E : (ℕ → Option model.Chain) → WithEngine ℕ =
       λ f. (r, record { places = f; caches = caches_of caches; notices = s.notices; store = s.store }) in
@@ -195,6 +196,6 @@ module _ {S : Type 0} (meaning : S → Meaning) (e : Engine S) where
       ap E same
 
   pub notices_changed :
-      (notices : Notices) (meant : model.Notices) → told notices ≡ meant →
+      (notices : Notices) (meant : model.Notices) → notices_of notices ≡ meant →
       engine_of meaning (record e { notices = notices }) ≡ model.with_notices meant (engine_of meaning e)
   notices_changed notices meant same = ap (λ n. model.with_notices n (engine_of meaning e)) same

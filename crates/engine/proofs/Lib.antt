@@ -1,8 +1,8 @@
 pub mod ChainLemmas
 pub mod ReadLemmas
-pub mod Together
-pub mod Lifts
-pub mod ReadLift
-pub mod CallLifts
+pub mod BothSides
+pub mod ChainSteps
+pub mod ReadStep
+pub mod PlainSteps
 pub mod EngineLemmas
 pub mod CacheLemmas

@@ -1,4 +1,5 @@
 -- A read that goes further than its leg: what it answers, and what it leaves of the chain and of the caches.
+use Rattle.snapshot.specs.Intervals.{narrowed}
 use Rattle.std.proofs.Common.{◌≡◌, ℕ, ltb, true, Some, None, Ok, Err, Result, length, refl, sym, ap, ◌∙◌}
 use Rattle.snapshot.specs.Refusals.{around_store}
 use Rattle.snapshot.specs.declared.account.Reading.{Reading}
@@ -7,9 +8,9 @@ use Rattle.snapshot.specs.declared.fault.Fault.{Fault}
 use Rattle.store.specs.Meaning.{Meaning, written_to}
 use Rattle.lives.specs.Caches.{Cache}
 use Rattle.lives.specs.Engines as model
-use Rattle.lives.specs.Steps.{own_reading}
+use Rattle.lives.specs.Steps.{after_reading, own_reading}
 use Rattle.lives.specs.Updates.{with_at}
-use Rattle.engine.specs.ChainCalls.{looked_further, noted, read_further, read_on}
+use Rattle.engine.specs.ChainCalls.{further_reading, after_further_read, after_read}
 use Rattle.engine.specs.Legs.{open_in}
 use Rattle.engine.specs.declared.named.Named.{Named}
 
@@ -22,22 +23,22 @@ pub record Further (n : Named) (c : model.Chain) (leg : model.OpenLeg) : Type 0 
 
 goes_further :
     (n : Named) (m : Meaning) (c : model.Chain) (caches : ℕ → Cache) (leg : model.OpenLeg) → Further n c leg →
-    read_on n m (c, caches) ≡ read_further n m leg (c, caches)
+    after_read n m (c, caches) ≡ after_further_read n m leg (c, caches)
 goes_further n m c caches leg h = rw (h.open_leg, h.not_written, h.not_read, h.room) refl
 
 pub read_answered :
     (n : Named) (m : Meaning) (c : model.Chain) (caches : ℕ → Cache) (leg : model.OpenLeg) → Further n c leg →
-    (r : Reading) (cache : Cache) → looked_further m leg.interval n.key (caches leg.worker) ≡ (Ok r, cache) →
-    (after : model.Chain) (caches_after : ℕ → Cache) → after ≡ noted n.leg n.key leg r c →
-    caches_after ≡ with_at leg.worker cache caches → (Ok r.value, (after, caches_after)) ≡ read_on n m (c, caches)
+    (r : Reading) (cache : Cache) → further_reading m leg.interval n.key (caches leg.worker) ≡ (Ok r, cache) →
+    (after : model.Chain) (caches_after : ℕ → Cache) → after ≡ after_reading narrowed n.leg n.key leg r c →
+    caches_after ≡ with_at leg.worker cache caches → (Ok r.value, (after, caches_after)) ≡ after_read n m (c, caches)
 read_answered n m c caches leg h r cache looked after caches_after e f =
     let P : model.Chain → (ℕ → Cache) → Result ℕ EngineFault × (model.Chain × (ℕ → Cache)) = λ x y. (Ok r.value, (x, y)) in
     ap (λ x. P x caches_after) e
-    ∙ ap (P (noted n.leg n.key leg r c)) f
+    ∙ ap (P (after_reading narrowed n.leg n.key leg r c)) f
     ∙ sym (goes_further n m c caches leg h ∙ rw looked refl)
 
 pub read_refused :
     (n : Named) (m : Meaning) (c : model.Chain) (caches : ℕ → Cache) (leg : model.OpenLeg) → Further n c leg →
-    (f : Fault) (cache : Cache) → looked_further m leg.interval n.key (caches leg.worker) ≡ (Err f, cache) →
-    (Err (around_store f n.place n.leg n.key), (c, caches)) ≡ read_on n m (c, caches)
+    (f : Fault) (cache : Cache) → further_reading m leg.interval n.key (caches leg.worker) ≡ (Err f, cache) →
+    (Err (around_store f n.place n.leg n.key), (c, caches)) ≡ after_read n m (c, caches)
 read_refused n m c caches leg h f cache looked = sym (goes_further n m c caches leg h ∙ rw looked refl)

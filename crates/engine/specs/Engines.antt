@@ -1,11 +1,16 @@
 -- What an engine means in the model: its chains, its caches, its notices, and what its store means.
-use Rattle.std.specs.Prelude.{None}
+use Rattle.std.specs.Prelude.{◌≡◌, ℕ, None, Result}
 use Rattle.std.specs.Option.{option_map}
+use Rattle.snapshot.specs.declared.fault.EngineFault.{EngineFault}
 use Rattle.store.specs.Meaning.{Meaning}
 use Rattle.engine_parts.specs.Lists.{item_at}
-use Rattle.engine_parts.specs.WaitingNotices.{told, caches_of}
+use Rattle.engine_parts.specs.Caches.{caches_of}
+use Rattle.engine_parts.specs.WaitingNotices.{notices_of}
 use Rattle.lives.specs.Engines as model
+use Rattle.lives.specs.Steps.{AnswerTo}
+use Rattle.lives.specs.declared.calls.Call.{Call}
 use Rattle.engine.specs.Chains.{chain_of}
+use Rattle.engine.specs.StepOf.{step_of}
 use Rattle.engine.specs.declared.engine.Engine.{Engine}
 
 abbrev pub engine_of : {S : Type 0} → (S → Meaning) → Engine S → model.Engine
@@ -13,6 +18,14 @@ engine_of meaning e =
     record {
       places = item_at (option_map chain_of) None e.places;
       caches = caches_of e.caches;
-      notices = told e.notices;
+      notices = notices_of e.notices;
       store = meaning e.store;
     }
+
+-- the answer and the engine after are those that the rules draw from the call and the engine before
+abbrev pub IsStep :
+    {S : Type 0} → (S → Meaning) → (depth : ℕ) (c : Call) → Engine S → Result (AnswerTo c) EngineFault → Engine S → Type 0
+IsStep meaning depth c before answer after =
+    ◌≡◌ {A = Result (AnswerTo c) EngineFault × model.Engine}
+    (answer, engine_of meaning after)
+    (step_of depth c (engine_of meaning before))

@@ -4,7 +4,7 @@ use Rattle.snapshot.specs.Intervals.{narrowed, joined_or_refused}
 use Rattle.snapshot.specs.declared.account.Write.{Write}
 use Rattle.snapshot.specs.declared.fault.Refusal.{Refusal}
 use Rattle.snapshot.specs.declared.fault.Refusal.TheVariants.{NotOpen}
-use Rattle.engine_parts.specs.WriteSets.{written, fit_or_refused}
+use Rattle.engine_parts.specs.WriteSets.{writes_of, fit_or_refused}
 use Rattle.lives.specs.Engines as model
 use Rattle.lives.specs.WriteSets.{with_write, united}
 use Rattle.engine.specs.Workers.{number_of}
@@ -15,7 +15,7 @@ use Rattle.engine.specs.declared.leg.LegCall.TheVariants as call
 use Rattle.engine.specs.declared.leg.OpenLeg.{OpenLeg}
 
 abbrev pub open_leg_of : OpenLeg → model.OpenLeg
-open_leg_of o = record { worker = number_of o.worker; interval = o.interval; writes = written o.writes }
+open_leg_of o = record { worker = number_of o.worker; interval = o.interval; writes = writes_of o.writes }
 
 abbrev pub leg_of : Leg → model.LegState
 leg_of leg.Unused = model.unused
@@ -29,17 +29,17 @@ open_in (model.running l) = Some l
 open_in model.ended = None
 
 -- an open leg after a write, if the write set can take it
-abbrev pub written_in : model.OpenLeg → Result (List Write) Refusal → Result (Unit {0}) Refusal × model.LegState
-written_in l (Ok ws) = (Ok tt, model.running (model.holding ws l))
-written_in l (Err r) = (Err r, model.running l)
+abbrev pub leg_with_writes : model.OpenLeg → Result (List Write) Refusal → Result (Unit {0}) Refusal × model.LegState
+leg_with_writes l (Ok ws) = (Ok tt, model.running (model.holding ws l))
+leg_with_writes l (Err r) = (Err r, model.running l)
 
 -- what becomes of a leg at a call: narrowed, written to or ended, or refused where it is not open
-abbrev pub changed : LegCall → model.LegState → Result (Unit {0}) Refusal × model.LegState
-changed c model.unused = (Err NotOpen, model.unused)
-changed (call.Narrow r) (model.running l) = (Ok tt, model.running (model.within (narrowed l.interval r) l))
-changed (call.Write w) (model.running l) = written_in l (fit_or_refused (with_write w l.writes))
-changed call.End (model.running l) = (Ok tt, model.ended)
-changed c model.ended = (Err NotOpen, model.ended)
+abbrev pub after_call : LegCall → model.LegState → Result (Unit {0}) Refusal × model.LegState
+after_call c model.unused = (Err NotOpen, model.unused)
+after_call (call.Narrow r) (model.running l) = (Ok tt, model.running (model.within (narrowed l.interval r) l))
+after_call (call.Write w) (model.running l) = leg_with_writes l (fit_or_refused (with_write w l.writes))
+after_call call.End (model.running l) = (Ok tt, model.ended)
+after_call c model.ended = (Err NotOpen, model.ended)
 
 -- what is made of a result, or of its refusal
 abbrev pub on_result : {Y E Z : Type 0} → Result Y E → (E → Z) → (Y → Z) → Z

@@ -3,5 +3,5 @@ pub mod Naming
 pub mod Legs
 pub mod Chains
 pub mod ChainCalls
-pub mod Drawn
+pub mod StepOf
 pub mod Engines

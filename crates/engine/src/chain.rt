@@ -1,14 +1,14 @@
 // A chain: its legs by their numbers, and its readings in order.
 ghost use Rattle.std.specs.Option.{option_map, option_copied};
-ghost use Rattle.std.specs.Prelude.{◌≡◌, ◌<◌, ◌+◌, length, OnErr, OnSome, nat_lt};
+ghost use Rattle.std.specs.Prelude.{◌≡◌, ◌<◌, length, OnErr, OnSome, nat_lt};
 ghost use Rattle.snapshot.specs.Limits.{chain_readings};
 ghost use Rattle.lives.specs.Engines as model;
 ghost use Rattle.engine_parts.specs.Lists.{entries};
-ghost use Rattle.engine_parts.specs.Parts.{cached};
-ghost use Rattle.engine_parts.specs.WaitingNotices.{caches_of};
-ghost use Rattle.engine.specs.ChainCalls.{handed, forked, joined, wrote, looked_further, read_on};
+ghost use Rattle.engine_parts.specs.Caches.{cache_of};
+ghost use Rattle.engine_parts.specs.Caches.{caches_of};
+ghost use Rattle.engine.specs.ChainCalls.{after_hand, after_fork, after_join, after_write, further_reading, after_read};
 ghost use Rattle.engine.specs.Chains.{chain_of};
-ghost use Rattle.engine.specs.Legs.{open_leg_of, open_in, changed};
+ghost use Rattle.engine.specs.Legs.{open_leg_of, open_in, after_call};
 ghost use Rattle.engine.specs.Workers.{number_of};
 ghost use Rattle.engine.specs.declared.leg.LegCall.TheVariants as call;
 
@@ -19,14 +19,14 @@ use engine_parts::cache::{CACHES, Cache};
 use engine_parts::list::BoundedList;
 use engine_parts::write_set::WriteSet;
 use lives::records::{CacheEntry, LegAndKey, LegReading};
-use snapshot::account::{ChainReading, NO_READING, Reading, Write};
+use snapshot::account::{ChainReading, Reading, Write};
 use snapshot::fault::{EngineFault, Fault, Refusal};
 use snapshot::interval::Interval;
 use snapshot::limits::{CHAIN_READINGS, LEGS};
 use store::traits::Reads;
 
 // How many legs a chain can have.
-pub(crate) const ALL_LEGS: usize = LEGS as usize;
+const ALL_LEGS: usize = LEGS as usize;
 
 // The legs, how many have been opened, and the readings of all of them.
 #[derive(Clone, Copy)]
@@ -44,19 +44,19 @@ impl Chain {
         let mut chain = Chain {
             legs: [Leg::Unused; ALL_LEGS],
             opened: 0,
-            readings: BoundedList::empty(NO_LEG_READING),
+            readings: BoundedList::new(),
         };
         chain.open(OpenLeg {
             worker,
             interval: Interval::ALL_TIMES,
-            writes: WriteSet::empty(),
+            writes: WriteSet::new(),
         });
         chain
     }
 
     // Ends a leg and opens the next at a worker, with the same interval and write set.
     pub(crate) fn hand(&mut self, named: Named, worker: Worker) -> Result<u8, EngineFault>
-        ensures made { (result, chain_of self.new) ≡ handed named (number_of worker) (chain_of self.old) }
+        ensures made { (result, chain_of self.new) ≡ after_hand named (number_of worker) (chain_of self.old) }
         ensures unchanged { OnErr result (self.new ≡ self.old) }
     {
         let Some(open) = self.open_leg(named.leg) else {
@@ -78,7 +78,7 @@ impl Chain {
         first: Worker,
         second: Worker,
     ) -> Result<(u8, u8), EngineFault>
-        ensures made { (result, chain_of self.new) ≡ forked named (number_of first) (number_of second) (chain_of self.old) }
+        ensures made { (result, chain_of self.new) ≡ after_fork named (number_of first) (number_of second) (chain_of self.old) }
         ensures unchanged { OnErr result (self.new ≡ self.old) }
     {
         let Some(open) = self.open_leg(named.leg) else {
@@ -109,7 +109,7 @@ impl Chain {
         second: u8,
         worker: Worker,
     ) -> Result<u8, EngineFault>
-        ensures made { (result, chain_of self.new) ≡ joined named second (number_of worker) (chain_of self.old) }
+        ensures made { (result, chain_of self.new) ≡ after_join named second (number_of worker) (chain_of self.old) }
         ensures unchanged { OnErr result (self.new ≡ self.old) }
     {
         let Some(open) = self.open_leg(named.leg) else {
@@ -125,7 +125,7 @@ impl Chain {
             return Err(named.refused(Refusal::TooManyLegs));
         }
         let both = open
-            .joined(other, worker)
+            .join(other, worker)
             .map_err(|refusal| named.refused(refusal))?;
         let _ = self.change(named.leg, LegCall::End);
         let _ = self.change(second, LegCall::End);
@@ -134,7 +134,7 @@ impl Chain {
 
     // Sets a key's value in a leg's write set.
     pub(crate) fn write(&mut self, named: Named, value: u32) -> Result<(), EngineFault>
-        ensures made { (result, chain_of self.new) ≡ wrote named value (chain_of self.old) }
+        ensures made { (result, chain_of self.new) ≡ after_write named value (chain_of self.old) }
         ensures unchanged { OnErr result (self.new ≡ self.old) }
     {
         let Some(_) = self.open_leg(named.leg) else {
@@ -156,7 +156,7 @@ impl Chain {
         caches: &mut [Cache; CACHES],
         store: &S,
     ) -> Result<u32, EngineFault>
-        ensures made { (result, (chain_of self.new, caches_of caches.new)) ≡ read_on named (S.Reads.meaning store.now) (chain_of self.old, caches_of caches.old) }
+        ensures made { (result, (chain_of self.new, caches_of caches.new)) ≡ after_read named (S.Reads.meaning store.now) (chain_of self.old, caches_of caches.old) }
         ensures unchanged { OnErr result (self.new ≡ self.old) }
         ensures caches_unchanged { OnErr result (caches.new ≡ caches.old) }
     {
@@ -204,7 +204,7 @@ impl Chain {
     fn note(&mut self, reading: LegReading)
         requires within { reading.leg < 16 }
         requires room { length (entries self.old.readings) < 32 }
-        ensures { chain_of self.new ≡ model.add_reading reading (model.with_leg reading.leg (changed (call.Narrow reading.made.reading) ((chain_of self.old).legs reading.leg)).1 (chain_of self.old)) }
+        ensures { chain_of self.new ≡ model.add_reading reading (model.with_leg reading.leg (after_call (call.Narrow reading.made.reading) ((chain_of self.old).legs reading.leg)).1 (chain_of self.old)) }
     {
         let LegReading { leg, made } = reading;
         let _ = self.change(
@@ -227,8 +227,8 @@ impl Chain {
     // Changes a leg as the call says, or refuses as the leg does.
     fn change(&mut self, leg: u8, call: LegCall) -> Result<(), Refusal>
         requires { leg < 16 }
-        ensures answer { result ≡ (changed call ((chain_of self.old).legs leg)).0 }
-        ensures after { chain_of self.new ≡ model.with_leg leg (changed call ((chain_of self.old).legs leg)).1 (chain_of self.old) }
+        ensures answer { result ≡ (after_call call ((chain_of self.old).legs leg)).0 }
+        ensures after { chain_of self.new ≡ model.with_leg leg (after_call call ((chain_of self.old).legs leg)).1 (chain_of self.old) }
         ensures opened { self.new.opened ≡ self.old.opened }
         ensures unchanged { OnErr result (self.new ≡ self.old) }
     {
@@ -264,7 +264,7 @@ fn look_further<S: Reads>(
     interval: Interval,
     key: u8,
 ) -> Result<Reading, Fault>
-    ensures made { (result, cached cache.new) ≡ looked_further (S.Reads.meaning store.now) interval key (cached cache.old) }
+    ensures made { (result, cache_of cache.new) ≡ further_reading (S.Reads.meaning store.now) interval key (cache_of cache.old) }
     ensures unchanged { OnErr result (cache.new ≡ cache.old) }
 {
     match cache.answering(interval, key) {
@@ -279,8 +279,3 @@ fn look_further<S: Reads>(
         }
     }
 }
-
-const NO_LEG_READING: LegReading = LegReading {
-    leg: 0,
-    made: NO_READING,
-};

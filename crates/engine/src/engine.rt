@@ -1,5 +1,5 @@
 // The engine and its calls. A refused call answers its fault and leaves the engine as it was.
-ghost use Rattle.std.specs.Prelude.{◌≡◌, Ok, OnErr, length};
+ghost use Rattle.std.specs.Prelude.{◌≡◌, Ok, OnErr};
 ghost use Rattle.snapshot.specs.Refusals.{own_fault, unnamed};
 ghost use Rattle.snapshot.specs.declared.fault.Layer.TheVariants as layer;
 ghost use Rattle.snapshot.specs.declared.fault.Refusal.TheVariants.{NoSuchNotice};
@@ -7,9 +7,8 @@ ghost use Rattle.lives.specs.Caches.{with_notice};
 ghost use Rattle.lives.specs.Engines as model;
 ghost use Rattle.lives.specs.Updates.{with_at};
 ghost use Rattle.lives.specs.declared.calls.Call.TheVariants as call;
-ghost use Rattle.engine_parts.specs.WaitingNotices.{caches_of};
-ghost use Rattle.engine.specs.Drawn.{drawn};
-ghost use Rattle.engine.specs.Engines.{engine_of};
+ghost use Rattle.engine_parts.specs.Caches.{caches_of};
+ghost use Rattle.engine.specs.Engines.{engine_of, IsStep};
 
 use crate::chain::Chain;
 use crate::named::Named;
@@ -39,8 +38,8 @@ impl<S: Store> Engine<S> {
     {
         Engine {
             places: [None; ALL_PLACES],
-            caches: [Cache::empty(); CACHES],
-            notices: Notices::none(),
+            caches: [Cache::new(); CACHES],
+            notices: Notices::new(),
             store,
         }
     }
@@ -48,7 +47,7 @@ impl<S: Store> Engine<S> {
     // Opens a chain at a free place, with its leg 0 at a worker, and answers 0, that leg's number.
     // Refused: 1 place or worker out of range, 2 the place is not free.
     pub fn begin(&mut self, place: u8, worker: u8) -> Result<u8, EngineFault>
-        ensures step { (result, engine_of S.Reads.meaning self.new) ≡ drawn S.Store.depth (call.Begin place worker) (engine_of S.Reads.meaning self.old) }
+        ensures step { IsStep S.Reads.meaning S.Store.depth (call.Begin place worker) self.old result self.new }
         ensures unchanged { OnErr result (self.new ≡ self.old) }
     {
         let named = Named::place(place);
@@ -64,7 +63,7 @@ impl<S: Store> Engine<S> {
     // Ends a leg and opens the next at a worker, with the same interval and write set; answers the new leg's number.
     // Refused: 1 place, leg or worker out of range, 3 that leg is not open, 5 sixteen legs have been opened.
     pub fn hand(&mut self, place: u8, leg: u8, worker: u8) -> Result<u8, EngineFault>
-        ensures step { (result, engine_of S.Reads.meaning self.new) ≡ drawn S.Store.depth (call.Hand place leg worker) (engine_of S.Reads.meaning self.old) }
+        ensures step { IsStep S.Reads.meaning S.Store.depth (call.Hand place leg worker) self.old result self.new }
         ensures unchanged { OnErr result (self.new ≡ self.old) }
     {
         let named = Named::leg(place, leg);
@@ -85,7 +84,7 @@ impl<S: Store> Engine<S> {
         first_worker: u8,
         second_worker: u8,
     ) -> Result<(u8, u8), EngineFault>
-        ensures step { (result, engine_of S.Reads.meaning self.new) ≡ drawn S.Store.depth (call.Fork place leg first_worker second_worker) (engine_of S.Reads.meaning self.old) }
+        ensures step { IsStep S.Reads.meaning S.Store.depth (call.Fork place leg first_worker second_worker) self.old result self.new }
         ensures unchanged { OnErr result (self.new ≡ self.old) }
     {
         let named = Named::leg(place, leg);
@@ -109,7 +108,7 @@ impl<S: Store> Engine<S> {
         second_leg: u8,
         worker: u8,
     ) -> Result<u8, EngineFault>
-        ensures step { (result, engine_of S.Reads.meaning self.new) ≡ drawn S.Store.depth (call.Join place first_leg second_leg worker) (engine_of S.Reads.meaning self.old) }
+        ensures step { IsStep S.Reads.meaning S.Store.depth (call.Join place first_leg second_leg worker) self.old result self.new }
         ensures unchanged { OnErr result (self.new ≡ self.old) }
     {
         let named = Named::leg(place, first_leg);
@@ -126,7 +125,7 @@ impl<S: Store> Engine<S> {
     // from the store. Refused: 1 place, leg or key out of range, 3 that leg is not open, 8 cache or store would be needed
     // for a 33rd reading, 15 the store has dropped the version.
     pub fn read(&mut self, place: u8, leg: u8, key: u8) -> Result<u32, EngineFault>
-        ensures step { (result, engine_of S.Reads.meaning self.new) ≡ drawn S.Store.depth (call.Read place leg key) (engine_of S.Reads.meaning self.old) }
+        ensures step { IsStep S.Reads.meaning S.Store.depth (call.Read place leg key) self.old result self.new }
         ensures unchanged { OnErr result (self.new ≡ self.old) }
     {
         let named = Named { place, leg, key };
@@ -140,7 +139,7 @@ impl<S: Store> Engine<S> {
     // Sets a key's value in the leg's write set.
     // Refused: 1 place, leg or key out of range, 3 that leg is not open, 7 the write set would pass eight keys.
     pub fn write(&mut self, place: u8, leg: u8, key: u8, value: u32) -> Result<(), EngineFault>
-        ensures step { (result, engine_of S.Reads.meaning self.new) ≡ drawn S.Store.depth (call.Write place leg key value) (engine_of S.Reads.meaning self.old) }
+        ensures step { IsStep S.Reads.meaning S.Store.depth (call.Write place leg key value) self.old result self.new }
         ensures unchanged { OnErr result (self.new ≡ self.old) }
     {
         let named = Named { place, leg, key };
@@ -153,7 +152,7 @@ impl<S: Store> Engine<S> {
 
     // Frees a place. Refused: 1 place out of range, 3 no chain is open there.
     pub fn abandon(&mut self, place: u8) -> Result<(), EngineFault>
-        ensures step { (result, engine_of S.Reads.meaning self.new) ≡ drawn S.Store.depth (call.Abandon place) (engine_of S.Reads.meaning self.old) }
+        ensures step { IsStep S.Reads.meaning S.Store.depth (call.Abandon place) self.old result self.new }
         ensures unchanged { OnErr result (self.new ≡ self.old) }
     {
         let named = Named::place(place);
@@ -168,7 +167,7 @@ impl<S: Store> Engine<S> {
     // Shows a waiting notice, by its position from 0, to its worker's cache, and leaves it waiting.
     // Refused: 16 no notice waits at that position.
     pub fn deliver(&mut self, position: u64) -> Result<(), EngineFault>
-        ensures step { (result, engine_of S.Reads.meaning self.new) ≡ drawn S.Store.depth (call.Deliver position) (engine_of S.Reads.meaning self.old) }
+        ensures step { IsStep S.Reads.meaning S.Store.depth (call.Deliver position) self.old result self.new }
         ensures unchanged { OnErr result (self.new ≡ self.old) }
     {
         let Some(notice) = self.notices.get(position) else {
@@ -180,7 +179,7 @@ impl<S: Store> Engine<S> {
 
     // Removes a waiting notice, and later ones move up. Refused: 16 no notice waits at that position.
     pub fn discard(&mut self, position: u64) -> Result<(), EngineFault>
-        ensures step { (result, engine_of S.Reads.meaning self.new) ≡ drawn S.Store.depth (call.Discard position) (engine_of S.Reads.meaning self.old) }
+        ensures step { IsStep S.Reads.meaning S.Store.depth (call.Discard position) self.old result self.new }
         ensures unchanged { OnErr result (self.new ≡ self.old) }
     {
         let Some(_) = self.notices.get(position) else {
@@ -192,7 +191,7 @@ impl<S: Store> Engine<S> {
 
     // How many notices wait, and how many were lost.
     pub fn count(&self) -> (usize, u64)
-        ensures step { (Ok result, engine_of S.Reads.meaning self.now) ≡ drawn S.Store.depth call.Count (engine_of S.Reads.meaning self.now) }
+        ensures step { IsStep S.Reads.meaning S.Store.depth call.Count self.now (Ok result) self.now }
     {
         self.notices.count()
     }
@@ -200,7 +199,7 @@ impl<S: Store> Engine<S> {
     // The store drops of each key the versions older than the newest one that is above neither the horizon nor the last
     // timestamp.
     pub fn prune(&mut self, horizon: u64)
-        ensures step { (Ok tt, engine_of S.Reads.meaning self.new) ≡ drawn S.Store.depth (call.Prune horizon) (engine_of S.Reads.meaning self.old) }
+        ensures step { IsStep S.Reads.meaning S.Store.depth (call.Prune horizon) self.old (Ok tt) self.new }
     {
         self.store.prune(horizon);
     }

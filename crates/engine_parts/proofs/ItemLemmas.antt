@@ -1,18 +1,25 @@
 -- An array as a function of its places: what a write to it changes, and what stands at a place.
 use mathlib.Core.Path.{fun_ext}
-use Rattle.std.proofs.Common.{◌≡◌, ℕ, zero, suc, ◌<◌, ◌≤◌, cond, List, [], ◌∷◌, length, set, get_or, refl, sym, ap, ◌∙◌, arith}
-use Rattle.std.proofs.Math.Dec.{eqb-suc-zero, eqb-zero-suc, eqb-suc-suc}
+use Rattle.std.proofs.Common.{◌≡◌, ℕ, ◌<◌, ◌≤◌, ◌==◌, List, length, set, get_or, map, sym, ap, ◌∙◌, subst, ⊎_elim, arith}
+use Rattle.std.proofs.Math.ListN.{get_or-map}
+use Rattle.std.proofs.lemmas.Bool.{cond-true, cond-false, eqb-true, cases_Bool}
+use Rattle.std.proofs.lemmas.Bool.Decides.{nat_tests}
+use Rattle.std.proofs.lemmas.List.{map-set, length-map, get_or_default, get_or_past, get_or-set_same, get_or-set_other}
 use Rattle.lives.specs.Updates.{with_at}
 use Rattle.engine_parts.specs.Lists.{item_at}
 
 module _ {X Y : Type 0} (f : X → Y) (d : Y) where
   set_at : (xs : List X) (i : ℕ) (x : X) (j : ℕ) → i < length xs → item_at f d (set xs i x) j ≡ with_at i (f x) (item_at f d xs) j
-  set_at [] i x j lt = absurd (omega arith)
-  set_at (y ∷ ys) zero x zero lt = refl
-  set_at (y ∷ ys) zero x (suc j) lt = ap (λ b. cond b (f x) (item_at f d ys j)) (sym (eqb-suc-zero j))
-  set_at (y ∷ ys) (suc i) x zero lt = ap (λ b. cond b (f x) (f y)) (sym (eqb-zero-suc i))
-  set_at (y ∷ ys) (suc i) x (suc j) lt =
-      set_at ys i x j (omega arith) ∙ ap (λ b. cond b (f x) (item_at f d ys j)) (sym (eqb-suc-suc j i))
+  set_at xs i x j lt =
+      let ys = map f xs in
+      let within : i < length ys = omega (arith, length-map xs f) in
+      ap (λ zs. get_or zs j d) (map-set f xs i x)
+      ∙ ⊎_elim
+      (λ e.
+      let P : ℕ → Type 0 = λ k. get_or (set ys i (f x)) k d ≡ f x in
+      rw (cond-true (j == i) (f x) (get_or ys j d) e) (subst P (sym (eqb-true j i e)) (get_or-set_same ys i (f x) d within)))
+      (λ e. rw (cond-false (j == i) (f x) (get_or ys j d) e) (get_or-set_other ys i j (f x) d (grind (arith, nat_tests))))
+      (cases_Bool (j == i))
 
   -- a write changes the function at one place
   pub item_set : (xs : List X) (i : ℕ) (x : X) → i < length xs → item_at f d (set xs i x) ≡ with_at i (f x) (item_at f d xs)
@@ -20,12 +27,8 @@ module _ {X Y : Type 0} (f : X → Y) (d : Y) where
 
   -- what stands at a place of the array
   pub item_there : (xs : List X) (i : ℕ) (e : X) → i < length xs → item_at f d xs i ≡ f (get_or xs i e)
-  item_there [] i e lt = absurd (omega arith)
-  item_there (x ∷ xs) zero e lt = refl
-  item_there (x ∷ xs) (suc i) e lt = item_there xs i e (omega arith)
+  item_there xs i e lt = get_or_default (map f xs) i d (f e) (omega (arith, length-map xs f)) ∙ get_or-map f xs i e
 
   -- and past its end
   pub item_past : (xs : List X) (i : ℕ) → length xs ≤ i → item_at f d xs i ≡ d
-  item_past [] i le = refl
-  item_past (x ∷ xs) zero le = absurd (omega arith)
-  item_past (x ∷ xs) (suc i) le = item_past xs i (omega arith)
+  item_past xs i le = get_or_past (map f xs) i d (omega (arith, length-map xs f))

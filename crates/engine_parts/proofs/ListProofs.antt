@@ -1,19 +1,14 @@
 -- What moving the items of an array does to its first ones, and the first entry that passes a test.
-use Rattle.std.proofs.Common.{◌≡◌, ℕ, zero, suc, ◌+◌, ◌-◌, ◌<◌, ◌≤◌, min, Bool, true, false, cond, List, [], ◌∷◌, ◌++◌, length, take, drop, set, add-one, Some, None, Option, refl, sym, ap, ◌∙◌, arith}
+use Rattle.std.proofs.Common.{◌≡◌, ℕ, suc, ◌+◌, ◌-◌, ◌<◌, ◌≤◌, min, Bool, true, false, cond, List, [], ◌∷◌, ◌++◌, length, take, drop, set, get_or, add-one, ⊎_elim, Some, None, Option, refl, sym, ap, ◌∙◌, arith}
 use Rattle.std.specs.List.{slice_get, find, remove, insert, copy_within}
 use Rattle.std.specs.Option.{option_map, option_and_then}
-use Rattle.std.proofs.lemmas.List.{append_assoc, length-take, length-drop, length-take-le, take_min, take_more_set, drop-take, drop_min, set-append_left}
+use Rattle.std.proofs.lemmas.List.{append_assoc, length-take, length-drop, length-take-le, take_min, take_more_set, drop-take, drop_min, take-take, set-append_left}
 use Rattle.std.proofs.lemmas.List.Edits.{take-paste}
+use Rattle.std.proofs.lemmas.Option.{slice_get_cases}
 use Rattle.std.proofs.Math.Seq.{take-set-lt}
 use Rattle.snapshot.specs.Finding.{first_with}
 
 module _ {X : Type 0} where
-  take_less : (k n : ℕ) (xs : List X) → k ≤ n → take k (take n xs) ≡ take k xs
-  take_less zero n xs h = refl
-  take_less (suc k) zero xs h = absurd (omega arith)
-  take_less (suc k) (suc n) [] h = refl
-  take_less (suc k) (suc n) (x ∷ xs) h = ap (λ ys. x ∷ ys) (take_less k n xs (omega arith))
-
   drop_of_front : (k n : ℕ) (xs : List X) → k ≤ n → drop k (take n xs) ≡ take (n - k) (drop k xs)
   drop_of_front k n xs h =
       let e : n ≡ k + (n - k) = omega arith in
@@ -26,11 +21,10 @@ module _ {X : Type 0} where
   up : (xs : List X) (n i : ℕ) → i < n → n ≤ length xs → take (n - 1) (copy_within xs (i + 1) n i) ≡ remove (take n xs) i
   up xs n i lt le =
       let e : n - 1 ≡ i + (n - (i + 1)) = omega arith in
-      let e' : n - (i + 1) ≡ n - suc i = omega arith in
       ap (λ m. take m (copy_within xs (i + 1) n i)) e
       ∙ take-paste xs i (drop (i + 1) xs) (n - (i + 1)) (omega arith) (omega (arith, length-drop (i + 1) xs))
       ∙ ap (λ ys. take i xs ++ ys) (sym (drop_of_front (i + 1) n xs (omega arith)))
-      ∙ ap (λ ys. ys ++ drop (i + 1) (take n xs)) (sym (take_less i n xs (omega arith)))
+      ∙ ap (λ ys. ys ++ drop (i + 1) (take n xs)) (sym (take-take i n xs (omega arith)))
       ∙ ap (λ k. take i (take n xs) ++ drop k (take n xs)) (add-one i)
 
   -- an item of the front gives way, and later ones move up
@@ -60,7 +54,7 @@ module _ {X : Type 0} where
       ∙ ap (λ ys. ys ++ take (n - i) (drop i xs)) one
       ∙ append_assoc (take i xs) (x ∷ []) (take (n - i) (drop i xs))
       ∙ ap (λ ys. take i xs ++ x ∷ ys) (sym (drop_of_front i n xs le))
-      ∙ ap (λ ys. ys ++ x ∷ drop i (take n xs)) (sym (take_less i n xs le))
+      ∙ ap (λ ys. ys ++ x ∷ drop i (take n xs)) (sym (take-take i n xs le))
 
   -- an item is put in the front, and later ones move down
   pub moved_down :
@@ -91,6 +85,8 @@ module _ {X : Type 0} where
   leads_to_it test xs i e = ap (option_and_then (slice_get xs)) (sym e) ∙ found test xs
 
   pub something_there : (xs : List X) (i : ℕ) → i < length xs → slice_get xs i ≡ None → ⊥
-  something_there [] i lt e = omega arith
-  something_there (x ∷ xs) zero lt e = cc
-  something_there (x ∷ xs) (suc i) lt e = something_there xs i (omega arith) e
+  something_there xs i lt e =
+      ⊎_elim
+      (λ (there : (x : X) × (i < length xs) × (slice_get xs i ≡ Some x) × (get_or xs i x ≡ x)). absurd (cc (there.2)))
+      (λ (past : (length xs ≤ i) × (slice_get xs i ≡ None)). omega arith)
+      (slice_get_cases xs i).1

@@ -1,4 +1,4 @@
 pub mod Lists
-pub mod Parts
+pub mod Caches
 pub mod WriteSets
 pub mod WaitingNotices

@@ -1,5 +1,5 @@
 -- What a list of bounded length holds, and what stands in an array, as the model tells it.
-use Rattle.std.specs.Prelude.{ℕ, zero, suc, List, [], ◌∷◌, take}
+use Rattle.std.specs.Prelude.{ℕ, List, map, take, slice_index_or}
 use Rattle.engine_parts.specs.declared.list.BoundedList.{BoundedList}
 
 -- the entries, from the first to the last
@@ -8,6 +8,4 @@ entries l = take l.len l.items
 
 -- what f makes of the item at a place, and past the end d
 abbrev pub item_at : {X Y : Type 0} → (X → Y) → Y → List X → ℕ → Y
-item_at f d [] i = d
-item_at f d (x ∷ xs) zero = f x
-item_at f d (x ∷ xs) (suc i) = item_at f d xs i
+item_at f d xs i = slice_index_or (map f xs) i d

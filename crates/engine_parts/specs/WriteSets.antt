@@ -8,8 +8,8 @@ use Rattle.engine_parts.specs.Lists.{entries}
 use Rattle.engine_parts.specs.declared.write_set.WriteSet.{WriteSet}
 
 -- the writes, in rising order of their keys
-abbrev pub written : WriteSet → List Write
-written s = entries s.writes
+abbrev pub writes_of : WriteSet → List Write
+writes_of s = entries s.writes
 
 -- more than eight writes are refused
 abbrev pub fit_or_refused : List Write → Result (List Write) Refusal

@@ -1,6 +1,6 @@
 // A worker's cache: at most eight entries, one for a key, in the order of their use.
-ghost use Rattle.std.specs.Prelude.{◌≡◌, [], ◌∷◌, ◌++◌, ◌≤◌, length};
-ghost use Rattle.engine_parts.specs.Parts.{cached};
+ghost use Rattle.std.specs.Prelude.{◌≡◌, [], ◌∷◌, ◌++◌};
+ghost use Rattle.engine_parts.specs.Caches.{cache_of};
 ghost use Rattle.lives.specs.Caches as model;
 
 use crate::list::BoundedList;
@@ -21,31 +21,31 @@ pub struct Cache {
 
 impl Cache {
     // A cache without entries.
-    pub fn empty() -> Cache
-        ensures { cached result ≡ [] }
+    pub fn new() -> Cache
+        ensures { cache_of result ≡ [] }
     {
         Cache {
-            entries: BoundedList::empty(NO_ENTRY),
+            entries: BoundedList::new(),
         }
     }
 
     // The entry of a key, if there is one.
     pub fn look_up(&self, key: u8) -> Option<CacheEntry>
-        ensures { result ≡ model.look_up key (cached self.now) }
+        ensures { result ≡ model.look_up key (cache_of self.now) }
     {
         self.entries.with_key(key)
     }
 
     // Has the worker an entry of this key?
     pub fn holds(&self, key: u8) -> bool
-        ensures { result ≡ model.holds key (cached self.now) }
+        ensures { result ≡ model.holds key (cache_of self.now) }
     {
         self.look_up(key).is_some()
     }
 
     // The entry that answers a read of the key on a leg with this interval: the key's entry, if it meets the interval.
     pub fn answering(&self, interval: Interval, key: u8) -> Option<CacheEntry>
-        ensures { result ≡ model.answering interval key (cached self.now) }
+        ensures { result ≡ model.answering interval key (cache_of self.now) }
     {
         let entry = self.look_up(key)?;
         if interval.meets(entry.reading) {
@@ -57,7 +57,7 @@ impl Cache {
 
     // An entry becomes the latest used, in the place of its key's; a ninth takes that of the entry used longest ago.
     pub fn use_latest(&mut self, entry: CacheEntry)
-        ensures { cached self.new ≡ model.used_latest entry (cached self.old) }
+        ensures { cache_of self.new ≡ model.used_latest entry (cache_of self.old) }
     {
         self.take_out(entry.key);
         self.add_latest(entry);
@@ -66,12 +66,11 @@ impl Cache {
     // After the store answered for a key at this time: the answer becomes the latest used entry, unless the key's entry is
     // later than that time.
     pub fn keep_answer(&mut self, time: u64, answer: CacheEntry)
-        ensures { cached self.new ≡ model.with_answer time answer (cached self.old) }
+        ensures { cache_of self.new ≡ model.with_answer time answer (cache_of self.old) }
     {
-        let later = match self.look_up(answer.key) {
-            Some(entry) => entry.reading.timestamp > time,
-            None => false,
-        };
+        let later = self
+            .look_up(answer.key)
+            .is_some_and(|entry| entry.reading.timestamp > time);
         if !later {
             self.use_latest(answer);
         }
@@ -80,7 +79,7 @@ impl Cache {
     // After a notice: the key's entry takes a later reading, or the larger promise of an equal one, and keeps its place in
     // the order of use. Without an entry of the key there is no effect.
     pub fn take_notice(&mut self, notice: Notice)
-        ensures { cached self.new ≡ model.with_notice notice (cached self.old) }
+        ensures { cache_of self.new ≡ model.with_notice notice (cache_of self.old) }
     {
         let Some(place) = find(self.entries.as_slice(), notice.key) else {
             return;
@@ -93,7 +92,7 @@ impl Cache {
 
     // Takes out the entry of a key.
     fn take_out(&mut self, key: u8)
-        ensures { cached self.new ≡ model.without key (cached self.old) }
+        ensures { cache_of self.new ≡ model.without key (cache_of self.old) }
     {
         if let Some(place) = find(self.entries.as_slice(), key) {
             self.entries.remove(place);
@@ -102,7 +101,7 @@ impl Cache {
 
     // Adds an entry at the end, and where there are more than eight the first gives way.
     fn add_latest(&mut self, entry: CacheEntry)
-        ensures { cached self.new ≡ model.last_eight (cached self.old ++ entry ∷ []) }
+        ensures { cache_of self.new ≡ model.last_eight (cache_of self.old ++ entry ∷ []) }
     {
         if self.entries.is_full() {
             self.entries.remove(0);
@@ -126,12 +125,3 @@ fn noticed(new: Reading, held: Reading) -> Reading
         held
     }
 }
-
-const NO_ENTRY: CacheEntry = CacheEntry {
-    key: 0,
-    reading: Reading {
-        value: 0,
-        timestamp: 0,
-        promise: 0,
-    },
-};

@@ -1,5 +1,6 @@
-// A list of at most `N` entries, which lie in the value itself: no call on it asks for memory.
-ghost use Rattle.std.specs.Prelude.{◌≡◌, ◌≤◌, ◌<◌, ◌+◌, true, false, [], ◌∷◌, ◌++◌, length, nat_le, nat_lt, if◌then◌else◌, slice_get, slice_set, remove, insert};
+// A list of at most `N` entries, which lie in the value itself: no call on it asks for memory. Unlike the kit's list in
+// fixed memory it can be copied, and has no invariant: a length beyond the bound means the whole array.
+ghost use Rattle.std.specs.Prelude.{◌≡◌, ◌≤◌, false, [], ◌∷◌, ◌++◌, length, nat_le, nat_lt, if◌then◌else◌, slice_get, slice_set, remove, insert};
 ghost use Rattle.std.specs.List.{find};
 ghost use Rattle.engine_parts.specs.Lists.{entries};
 
@@ -11,24 +12,25 @@ pub struct BoundedList<T, const N: usize> {
     len: usize,
 }
 
-impl<T: Copy, const N: usize> BoundedList<T, N> {
-    // An empty list. What is passed stands where nothing is listed.
-    pub fn empty(blank: T) -> BoundedList<T, N>
+impl<T: Copy + Default, const N: usize> BoundedList<T, N> {
+    // An empty list.
+    pub fn new() -> BoundedList<T, N>
         ensures { entries result ≡ [] }
     {
         BoundedList {
-            items: [blank; N],
+            items: [T::default(); N],
             len: 0,
         }
     }
+}
 
+impl<T: Copy, const N: usize> BoundedList<T, N> {
     // How many entries there are.
     pub fn len(&self) -> usize
         ensures value { result ≡ length (entries self.now) }
         ensures fits { result ≤ N }
     {
-        let all = &self.items[..];
-        self.len.min(all.len())
+        self.len.min(N)
     }
 
     // The entries, from the first to the last.
@@ -36,17 +38,14 @@ impl<T: Copy, const N: usize> BoundedList<T, N> {
         ensures value { result.now ≡ entries self.now }
         ensures fits { length result.now ≤ N }
     {
-        let len = self.len();
-        let all = &self.items[..];
-        &all[..len]
+        &self.items[..self.len()]
     }
 
     // Is there room for no more?
     pub fn is_full(&self) -> bool
         ensures { result ≡ nat_le N (length (entries self.now)) }
     {
-        let all = &self.items[..];
-        all.len() <= self.len
+        N <= self.len
     }
 
     // The entry at this place, if there is one.

@@ -1,8 +1,10 @@
 // The engine's list of waiting notices, and the count of those that were lost.
-ghost use Rattle.std.specs.Prelude.{◌≡◌, length, remove, slice_get};
+ghost use Rattle.std.specs.Prelude.{◌≡◌, length, slice_get};
 ghost use Rattle.lives.specs.Caches.{holds};
+ghost use Rattle.lives.specs.Engines.{no_notices, without_notice};
 ghost use Rattle.lives.specs.Notices.{raise, raise_all};
-ghost use Rattle.engine_parts.specs.WaitingNotices.{told, no_notices, caches_of};
+ghost use Rattle.engine_parts.specs.Caches.{caches_of};
+ghost use Rattle.engine_parts.specs.WaitingNotices.{notices_of};
 
 use crate::cache::{CACHES, Cache};
 use crate::list::BoundedList;
@@ -11,7 +13,7 @@ use snapshot::account::{Reading, Write};
 use snapshot::limits::{WAITING_NOTICES, WORKERS};
 
 // The notices that wait, the one raised first before the others, and how many were lost.
-#[derive(Clone, Copy)]
+#[derive(Drop)]
 pub struct Notices {
     waiting: BoundedList<Notice, WAITING_NOTICES>,
     lost: u64,
@@ -19,39 +21,39 @@ pub struct Notices {
 
 impl Notices {
     // None waits, and none was lost.
-    pub fn none() -> Notices
-        ensures { told result ≡ no_notices }
+    pub fn new() -> Notices
+        ensures { notices_of result ≡ no_notices }
     {
         Notices {
-            waiting: BoundedList::empty(NO_NOTICE),
+            waiting: BoundedList::new(),
             lost: 0,
         }
     }
 
     // How many wait, and how many were lost.
     pub fn count(&self) -> (usize, u64)
-        ensures { result ≡ (length (told self.now).waiting, (told self.now).lost) }
+        ensures { result ≡ (length (notices_of self.now).waiting, (notices_of self.now).lost) }
     {
         (self.waiting.len(), self.lost)
     }
 
     // The waiting notice at this position, if there is one.
     pub fn get(&self, position: u64) -> Option<Notice>
-        ensures { result ≡ slice_get (told self.now).waiting position }
+        ensures { result ≡ slice_get (notices_of self.now).waiting position }
     {
         self.waiting.get(position as usize)
     }
 
     // Takes out the notice at this position, and later ones move up; past the end it has no effect.
     pub fn discard(&mut self, position: u64)
-        ensures { told self.new ≡ record { waiting = remove (told self.old).waiting position; lost = (told self.old).lost } }
+        ensures { notices_of self.new ≡ without_notice position (notices_of self.old) }
     {
         self.waiting.remove(position as usize);
     }
 
     // The notice waits if there is room, and else is lost and counted, up to the greatest count.
     pub fn raise(&mut self, notice: Notice)
-        ensures { told self.new ≡ raise notice (told self.old) }
+        ensures { notices_of self.new ≡ raise notice (notices_of self.old) }
     {
         if !self.waiting.push(notice) {
             self.lost = self.lost.saturating_add(1);
@@ -61,7 +63,7 @@ impl Notices {
     // Raises the notices of writes that were committed at this timestamp: key by key, and for each key worker by worker, one
     // for each worker whose cache has an entry of it. The timestamp is also their promise.
     pub fn raise_for(&mut self, caches: &[Cache; CACHES], timestamp: u64, writes: &[Write])
-        ensures { told self.new ≡ raise_all (λ k c. holds k c) (caches_of caches.now) timestamp writes.now (told self.old) }
+        ensures { notices_of self.new ≡ raise_all (λ k c. holds k c) (caches_of caches.now) timestamp writes.now (notices_of self.old) }
     {
         for write in writes {
             for worker in 0..WORKERS {
@@ -82,12 +84,3 @@ impl Notices {
 }
 
 // What stands in the list where no notice waits.
-const NO_NOTICE: Notice = Notice {
-    worker: 0,
-    key: 0,
-    reading: Reading {
-        value: 0,
-        timestamp: 0,
-        promise: 0,
-    },
-};

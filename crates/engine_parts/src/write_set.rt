@@ -4,10 +4,10 @@ ghost use Rattle.std.specs.List.{position_or_len};
 ghost use Rattle.std.specs.Result.{result_and, result_map_both};
 ghost use Rattle.store.specs.Meaning.{written_to};
 ghost use Rattle.lives.specs.WriteSets.{with_write, united};
-ghost use Rattle.engine_parts.specs.WriteSets.{written, fit_or_refused};
+ghost use Rattle.engine_parts.specs.WriteSets.{writes_of, fit_or_refused};
 
 use crate::list::BoundedList;
-use snapshot::account::{NO_WRITE, Write};
+use snapshot::account::Write;
 use snapshot::fault::Refusal;
 use snapshot::limits::WRITE_KEYS;
 
@@ -19,17 +19,17 @@ pub struct WriteSet {
 
 impl WriteSet {
     // A set without writes.
-    pub fn empty() -> WriteSet
-        ensures { written result ≡ [] }
+    pub fn new() -> WriteSet
+        ensures { writes_of result ≡ [] }
     {
         WriteSet {
-            writes: BoundedList::empty(NO_WRITE),
+            writes: BoundedList::new(),
         }
     }
 
     // The writes, from the lowest key to the highest.
     pub fn as_slice(&self) -> &[Write]
-        ensures value { result.now ≡ written self.now }
+        ensures value { result.now ≡ writes_of self.now }
         ensures fits { length result.now ≤ 8 }
     {
         self.writes.as_slice()
@@ -37,14 +37,14 @@ impl WriteSet {
 
     // The value that was written to the key, if one was.
     pub fn value_of(&self, key: u8) -> Option<u32>
-        ensures { result ≡ written_to key (written self.now) }
+        ensures { result ≡ written_to key (writes_of self.now) }
     {
         self.writes.with_key(key).map(|held| held.value)
     }
 
     // The place of the first write to this key or a higher one, or past the last where there is none.
     fn place_of(&self, key: u8) -> usize
-        ensures { result ≡ position_or_len (λ held. nat_le key held.key) (written self.now) }
+        ensures { result ≡ position_or_len (λ held. nat_le key held.key) (writes_of self.now) }
     {
         let writes = self.as_slice();
         writes
@@ -55,8 +55,8 @@ impl WriteSet {
 
     // Makes a write, which takes the place of one to the same key. Refused where the set would pass eight keys.
     pub fn write(&mut self, write: Write) -> Result<(), Refusal>
-        ensures answer { result ≡ result_and (fit_or_refused (with_write write (written self.old))) (Ok tt) }
-        ensures after { OnOk result (written self.new ≡ with_write write (written self.old)) }
+        ensures answer { result ≡ result_and (fit_or_refused (with_write write (writes_of self.old))) (Ok tt) }
+        ensures after { OnOk result (writes_of self.new ≡ with_write write (writes_of self.old)) }
         ensures unchanged { OnErr result (self.new ≡ self.old) }
     {
         let place = self.place_of(write.key);
@@ -70,8 +70,8 @@ impl WriteSet {
     }
 
     // This set and a later one united: a key in both has the later one's value. Refused where that would pass eight keys.
-    pub fn joined(&self, later: &WriteSet) -> Result<WriteSet, Refusal>
-        ensures { result_map_both written (λ e. e) result ≡ fit_or_refused (united (written self.now) (written later.now)) }
+    pub fn join(&self, later: &WriteSet) -> Result<WriteSet, Refusal>
+        ensures { result_map_both writes_of (λ e. e) result ≡ fit_or_refused (united (writes_of self.now) (writes_of later.now)) }
     {
         let mut both = *self;
         for write in later.as_slice() {

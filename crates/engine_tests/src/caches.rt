@@ -40,7 +40,7 @@ fn answering(cache: &Cache, low: u64, high: u64, key: u8) -> Option<Reading> {
 
 // A cache with the keys 0 to 7, used in this order, each known from time 10 to 20.
 fn full() -> Cache {
-    let mut cache = Cache::empty();
+    let mut cache = Cache::new();
     for key in 0..8 {
         cache.use_latest(entry(key, reading(100 + u32::from(key), 10, 20)));
     }
@@ -60,7 +60,7 @@ fn is_in_order(rt: &impl Abort, mut cache: Cache, keys: [u8; CACHE_KEYS]) {
 #[test]
 fn there_is_a_cache_for_each_of_eight_workers_and_a_new_one_has_no_entry(rt: HostRuntime) {
     assert_eq!(rt; CACHES, 8);
-    let cache = Cache::empty();
+    let cache = Cache::new();
     for key in 0..64 {
         assert_eq!(rt; held(&cache, key), None);
         assert!(rt; !cache.holds(key));
@@ -224,7 +224,7 @@ fn notice_of_a_key_without_entry_has_no_effect(rt: HostRuntime) {
     cache.take_notice(notice(8, reading(1, 30, 30)));
     assert_eq!(rt; held(&cache, 8), None);
     is_in_order(&rt, cache, [0, 1, 2, 3, 4, 5, 6, 7]);
-    let mut empty = Cache::empty();
+    let mut empty = Cache::new();
     empty.take_notice(notice(0, reading(1, 30, 30)));
     assert_eq!(rt; held(&empty, 0), None);
 }

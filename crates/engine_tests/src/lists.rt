@@ -13,7 +13,7 @@ fn write(key: u8, value: u32) -> Write {
 
 // A list of room for four with the numbers 1, 2 and 3.
 fn three() -> BoundedList<u8, 4> {
-    let mut list = BoundedList::empty(0);
+    let mut list = BoundedList::new();
     let _ = list.push(1);
     let _ = list.push(2);
     let _ = list.push(3);
@@ -35,7 +35,7 @@ fn lists(rt: &impl Abort, list: &BoundedList<u8, 4>, entries: &[u8]) {
 
 #[test]
 fn list_takes_entries_at_its_end_until_it_is_full(rt: HostRuntime) {
-    let mut list = BoundedList::empty(9);
+    let mut list = BoundedList::new();
     lists(&rt, &list, &[]);
     assert!(rt; list.push(1));
     lists(&rt, &list, &[1]);
@@ -64,7 +64,7 @@ fn list_takes_an_entry_before_any_other_or_at_the_end(rt: HostRuntime) {
         assert!(rt; !list.insert(place, 8), "at {place}");
         lists(&rt, &list, &entries);
     }
-    let mut list = BoundedList::empty(0);
+    let mut list = BoundedList::new();
     assert!(rt; list.insert(0, 7));
     lists(&rt, &list, &[7]);
 }
@@ -101,7 +101,7 @@ fn list_puts_an_entry_in_the_place_of_another_and_nowhere_else(rt: HostRuntime) 
 
 #[test]
 fn list_without_room_takes_nothing(rt: HostRuntime) {
-    let mut list: BoundedList<u8, 0> = BoundedList::empty(0);
+    let mut list: BoundedList<u8, 0> = BoundedList::new();
     assert!(rt; list.is_full());
     assert!(rt; !list.push(1));
     assert!(rt; !list.insert(0, 1));
@@ -110,7 +110,7 @@ fn list_without_room_takes_nothing(rt: HostRuntime) {
 
 #[test]
 fn list_finds_the_first_entry_with_a_key(rt: HostRuntime) {
-    let mut list: BoundedList<Write, 3> = BoundedList::empty(write(9, 9));
+    let mut list: BoundedList<Write, 3> = BoundedList::new();
     assert_eq!(rt; list.with_key(9), None);
     let _ = list.push(write(5, 1));
     let _ = list.push(write(4, 2));
@@ -134,7 +134,7 @@ fn has(rt: &impl Abort, set: &WriteSet, writes: &[Write]) {
 
 // A set with these writes, made in this order.
 fn set_of(rt: &impl Abort, writes: &[Write]) -> WriteSet {
-    let mut set = WriteSet::empty();
+    let mut set = WriteSet::new();
     for made in writes {
         assert_eq!(rt; set.write(*made), Ok(()));
     }
@@ -143,7 +143,7 @@ fn set_of(rt: &impl Abort, writes: &[Write]) -> WriteSet {
 
 #[test]
 fn write_set_keeps_its_keys_in_rising_order(rt: HostRuntime) {
-    let mut set = WriteSet::empty();
+    let mut set = WriteSet::new();
     has(&rt, &set, &[]);
     assert_eq!(rt; set.value_of(0), None);
     assert_eq!(rt; set.write(write(20, 1)), Ok(()));
@@ -175,7 +175,7 @@ fn write_to_a_key_of_the_set_takes_the_place_of_the_earlier_one(rt: HostRuntime)
 
 #[test]
 fn ninth_key_is_refused_and_one_of_eight_can_be_written_again(rt: HostRuntime) {
-    let mut eight = WriteSet::empty();
+    let mut eight = WriteSet::new();
     for key in [16, 2, 14, 4, 12, 6, 10, 8] {
         assert_eq!(rt; eight.write(write(key, 1)), Ok(()));
     }
@@ -215,7 +215,7 @@ fn is_joined(
     later: &WriteSet,
     expected: Result<&[Write], Refusal>,
 ) {
-    match (first.joined(later), expected) {
+    match (first.join(later), expected) {
         (Ok(both), Ok(writes)) => has(rt, &both, writes),
         (both, expected) => assert_eq!(rt; both.err(), expected.err()),
     }
@@ -225,7 +225,7 @@ fn is_joined(
 fn joined_sets_have_the_later_ones_value_of_a_key_in_both(rt: HostRuntime) {
     let one = set_of(&rt, &[write(5, 1), write(20, 2), write(63, 3)]);
     let other = set_of(&rt, &[write(0, 4), write(20, 5), write(30, 6)]);
-    let none = WriteSet::empty();
+    let none = WriteSet::new();
     is_joined(
         &rt,
         &one,

@@ -68,16 +68,16 @@ fn write(key: u8, value: u32) -> Write {
 
 #[test]
 fn at_first_none_waits_and_none_was_lost(rt: HostRuntime) {
-    are(&rt, &Notices::none(), &[], 0);
+    are(&rt, &Notices::new(), &[], 0);
 }
 
 #[test]
 fn writes_raise_notices_key_by_key_and_worker_by_worker_where_the_key_is_held(rt: HostRuntime) {
-    let mut caches = [Cache::empty(); CACHES];
+    let mut caches = [Cache::new(); CACHES];
     for (worker, key) in [(7, 3), (0, 3), (4, 3), (2, 5), (7, 5), (1, 9), (3, 0)] {
         cache_key(&rt, &mut caches, worker, key);
     }
-    let mut notices = Notices::none();
+    let mut notices = Notices::new();
     notices.raise_for(&caches, 40, &[write(3, 33), write(5, 55), write(6, 66)]);
     are(
         &rt,
@@ -112,8 +112,8 @@ fn writes_raise_notices_key_by_key_and_worker_by_worker_where_the_key_is_held(rt
 
 #[test]
 fn no_notice_is_raised_without_writes_or_where_no_cache_has_the_key(rt: HostRuntime) {
-    let mut caches = [Cache::empty(); CACHES];
-    let mut notices = Notices::none();
+    let mut caches = [Cache::new(); CACHES];
+    let mut notices = Notices::new();
     for key in 0..KEYS {
         notices.raise_for(&caches, 40, &[write(key, 1)]);
     }
@@ -126,18 +126,18 @@ fn no_notice_is_raised_without_writes_or_where_no_cache_has_the_key(rt: HostRunt
 
 #[test]
 fn key_whose_entry_was_replaced_raises_no_notice(rt: HostRuntime) {
-    let mut caches = [Cache::empty(); CACHES];
+    let mut caches = [Cache::new(); CACHES];
     for key in 0..9 {
         cache_key(&rt, &mut caches, 6, key);
     }
-    let mut notices = Notices::none();
+    let mut notices = Notices::new();
     notices.raise_for(&caches, 40, &[write(0, 10), write(1, 11), write(8, 18)]);
     are(&rt, &notices, &[(6, 1, 11, 40, 40), (6, 8, 18, 40, 40)], 0);
 }
 
 #[test]
 fn notices_beyond_32_are_lost_and_counted(rt: HostRuntime) {
-    let mut notices = Notices::none();
+    let mut notices = Notices::new();
     for (worker, value) in (0..8).cycle().zip(0..32) {
         notices.raise(notice(worker, 1, value, 10));
     }
@@ -161,13 +161,13 @@ fn notices_beyond_32_are_lost_and_counted(rt: HostRuntime) {
 
 #[test]
 fn five_written_keys_in_eight_caches_lose_the_last_eight_notices(rt: HostRuntime) {
-    let mut caches = [Cache::empty(); CACHES];
+    let mut caches = [Cache::new(); CACHES];
     for worker in 0..8 {
         for key in 0..5 {
             cache_key(&rt, &mut caches, worker, key);
         }
     }
-    let mut notices = Notices::none();
+    let mut notices = Notices::new();
     notices.raise_for(
         &caches,
         40,
@@ -186,33 +186,39 @@ fn five_written_keys_in_eight_caches_lose_the_last_eight_notices(rt: HostRuntime
     assert_eq!(rt; notices.get(31).map(shown), Some((7, 3, 13, 40, 40)));
 }
 
+// Three notices that wait.
+fn three() -> Notices {
+    let mut three = Notices::new();
+    three.raise(notice(0, 1, 10, 40));
+    three.raise(notice(1, 2, 20, 41));
+    three.raise(notice(2, 3, 30, 42));
+    three
+}
+
 #[test]
 fn discard_moves_later_notices_up(rt: HostRuntime) {
     let first = (0, 1, 10, 40, 40);
     let second = (1, 2, 20, 41, 41);
     let third = (2, 3, 30, 42, 42);
-    let mut three = Notices::none();
-    three.raise(notice(0, 1, 10, 40));
-    three.raise(notice(1, 2, 20, 41));
-    three.raise(notice(2, 3, 30, 42));
-    are(&rt, &three, &[first, second, third], 0);
+    are(&rt, &three(), &[first, second, third], 0);
     let cases = [
         (0, [second, third]),
         (1, [first, third]),
         (2, [first, second]),
     ];
     for (position, left) in cases {
-        let mut notices = three;
+        let mut notices = three();
         notices.discard(position);
         are(&rt, &notices, &left, 0);
     }
     for position in [3, 4, u64::MAX] {
-        let mut notices = three;
+        let mut notices = three();
         notices.discard(position);
         are(&rt, &notices, &[first, second, third], 0);
     }
+    let mut notices = three();
     for _ in 0..4 {
-        three.discard(0);
+        notices.discard(0);
     }
-    are(&rt, &three, &[], 0);
+    are(&rt, &notices, &[], 0);
 }

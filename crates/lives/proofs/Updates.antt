@@ -1,4 +1,5 @@
 -- A function with another value at one place: there it has that value, elsewhere what it had.
+use mathlib.Core.Path.{fun_ext}
 use Rattle.std.proofs.Common.{◌≡◌, ℕ, ◌==◌, sym, refl, subst, ⊎_elim}
 use Rattle.std.proofs.lemmas.Bool.{cond-true, cond-false, cond_both, eq-eqb, ne_eqb, eqb-true, cases_Bool}
 use Rattle.lives.specs.Updates.{with_at}
@@ -28,3 +29,7 @@ at_each_two P i x f y g here each j =
     rw (cond-true (j == i) x (f j) e, cond-true (j == i) y (g j) e) (subst Q (sym (eqb-true j i e)) here))
     (λ e. rw (cond-false (j == i) x (f j) e, cond-false (j == i) y (g j) e) (each j))
     (cases_Bool (j == i))
+
+-- what is there, put there again, changes nothing
+pub at_same_value : {X : Type 0} (i : ℕ) (x : X) (f : ℕ → X) → x ≡ f i → with_at i x f ≡ f
+at_same_value i x f same = fun_ext (at_each (λ j y. y ≡ f j) i x f same (λ j. refl))

@@ -1,5 +1,6 @@
 -- The state of an engine: open chains with their legs, caches, notices, and the meaning of the store below.
 use Rattle.std.specs.Prelude.{ℕ, suc, Bool, true, false, List, [], ◌∷◌, ◌++◌, None, Option}
+use Rattle.std.specs.List.{remove}
 use Rattle.snapshot.specs.Intervals.{from_to}
 use Rattle.snapshot.specs.Limits.{open_end}
 use Rattle.snapshot.specs.declared.account.Write.{Write}
@@ -76,6 +77,14 @@ pub record Notices : Type 0 where
   pub waiting : List Notice
   pub lost : ℕ
 
+-- none waits, and none was lost
+abbrev pub no_notices : Notices
+no_notices = record { waiting = []; lost = 0 }
+
+-- without the notice at a position: later ones move up
+abbrev pub without_notice : ℕ → Notices → Notices
+without_notice i n = record { waiting = remove n.waiting i; lost = n.lost }
+
 -- the chain at each place, the cache of each worker, the notices, and what the store means
 pub record Engine : Type 0 where
   pub places : ℕ → Option Chain
@@ -86,7 +95,7 @@ pub record Engine : Type 0 where
 -- a new engine has no chain, no entry, no notice, and none that was lost
 abbrev pub new_engine : Meaning → Engine
 new_engine m =
-    record { places = λ p. None; caches = λ w. []; notices = record { waiting = []; lost = 0 }; store = m }
+    record { places = λ p. None; caches = λ w. []; notices = no_notices; store = m }
 
 abbrev pub with_place : ℕ → Option Chain → Engine → Engine
 with_place p c s =

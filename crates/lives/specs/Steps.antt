@@ -1,7 +1,7 @@
 -- One step of an engine: from its state and a call to the answer and the state after it. Each call's checks stand in the
 -- order of the refusals' numbers, and a refused call leaves the state as it is.
 use Rattle.std.specs.Prelude.{ℕ, zero, suc, Bool, true, if◌then◌else◌, not, ◌&&◌, ◌||◌, List, [], ◌∷◌, map, length, Some, None, Ok, Err, Option, Result, ◌==◌, nat_le, nat_lt}
-use Rattle.std.specs.List.{slice_get, remove}
+use Rattle.std.specs.List.{slice_get}
 use Rattle.snapshot.specs.Accounts.{Account}
 use Rattle.snapshot.specs.Intervals.{joined_or_refused}
 use Rattle.snapshot.specs.Limits.{legs, is_key, is_worker, is_place, is_leg}
@@ -13,9 +13,10 @@ use Rattle.snapshot.specs.declared.fault.EngineFault.{EngineFault}
 use Rattle.snapshot.specs.declared.fault.Layer.TheVariants as layer
 use Rattle.snapshot.specs.declared.fault.Refusal.{Refusal}
 use Rattle.snapshot.specs.declared.fault.Refusal.TheVariants.{OutOfRange, PlaceOccupied, NotOpen, SameLeg, TooManyLegs, WriteSetFull, ReadingsFull, AnotherLegOpen, TooShort, NoSuchNotice}
+use Rattle.snapshot.specs.declared.interval.Interval.{Interval}
 use Rattle.store.specs.Meaning.{commit_answer_by, with_writes, after_prune, written_to}
 use Rattle.lives.specs.Caches.{Cache, entry_of}
-use Rattle.lives.specs.Engines.{OpenLeg, LegState, unused, running, ended, is_running, on_worker, holding, within, Chain, with_leg, end_leg, open_leg, add_reading, new_chain, Notices, Engine, with_place, with_cache, with_notices, with_store}
+use Rattle.lives.specs.Engines.{OpenLeg, LegState, unused, running, ended, is_running, on_worker, holding, within, Chain, with_leg, end_leg, open_leg, add_reading, new_chain, without_notice, Engine, with_place, with_cache, with_notices, with_store}
 use Rattle.lives.specs.Notices.{raise_all}
 use Rattle.lives.specs.Rules.{Rules}
 use Rattle.lives.specs.declared.calls.Call.{Call}
@@ -109,6 +110,12 @@ abbrev pub only_open : ℕ → (ℕ → LegState) → ℕ → Bool
 only_open l states zero = true
 only_open l states (suc n) = (n == l || not (is_running (states n))) && only_open l states n
 
+-- the chain after a reading on one of its legs: the leg's interval is narrowed, and the reading joins the others
+abbrev pub after_reading : (Interval → Reading → Interval) → ℕ → ℕ → OpenLeg → Reading → Chain → Chain
+after_reading narrow l k leg r c =
+    let here : ChainReading = record { worker = leg.worker; key = k; reading = r } in
+    add_reading (record { leg = l; made = here }) (with_leg l (running (within (narrow leg.interval r) leg)) c)
+
 -- the account of a chain that commits by this leg at this timestamp
 abbrev pub account_for : Chain → OpenLeg → ℕ → Account
 account_for chain leg t =
@@ -178,17 +185,10 @@ module _ (rules : Rules) (depth : ℕ) where
       check (nat_le (length ws) rules.limits.write_keys) (no WriteSetFull)
       (accepted tt (with_place p (Some (with_leg l (running (holding ws leg)) chain)) s))))
 
-  -- the chain after a reading on one of its legs: the leg's interval is narrowed, and the reading joins the others
-  abbrev pub after_reading : ℕ → ℕ → OpenLeg → Reading → Chain → Chain
-  after_reading l k leg r c =
-      let here : ChainReading = record { worker = leg.worker; key = k; reading = r } in
-      add_reading (record { leg = l; made = here })
-      (with_leg l (running (within (rules.narrow leg.interval r) leg)) c)
-
   -- a reading answers: it is noted, and the worker's cache becomes this one
   abbrev pub answered_by : ℕ → ℕ → ℕ → Chain → OpenLeg → Reading → Cache → Engine → Outcome ℕ
   answered_by p l k chain leg r cache s =
-      accepted r.value (with_cache leg.worker cache (with_place p (Some (after_reading l k leg r chain)) s))
+      accepted r.value (with_cache leg.worker cache (with_place p (Some (after_reading rules.narrow l k leg r chain)) s))
 
   -- asks the cache, then the store at the high end of the leg's interval
   abbrev pub look_further : ℕ → ℕ → ℕ → Chain → OpenLeg → Engine → Outcome ℕ
@@ -255,8 +255,7 @@ module _ (rules : Rules) (depth : ℕ) where
   abbrev pub discard_step : ℕ → Engine → Outcome (Unit {0})
   discard_step i s =
       with_notice_at i s (λ _.
-      let left : Notices = record { waiting = remove s.notices.waiting i; lost = s.notices.lost } in
-      accepted tt (with_notices left s))
+      accepted tt (with_notices (without_notice i s.notices) s))
 
   -- how many notices wait, and how many were lost
   abbrev pub count_step : Engine → Outcome (ℕ × ℕ)

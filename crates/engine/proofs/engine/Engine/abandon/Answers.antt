@@ -7,7 +7,7 @@ use Rattle.engine.specs.Chains.{chain_of}
 use Rattle.engine.specs.Engines.{engine_of}
 use Rattle.engine.specs.Naming.{has_place}
 use Rattle.engine.proofs.EngineLemmas.{failed, passed, stands, place_set, left_after, free_place, taken_place, refused_out, refused_at_all}
-use Rattle.engine.proofs.CallLifts.{abandon_lifts}
+use Rattle.engine.proofs.PlainSteps.{abandon_is_step}
 use Rattle.engine.proofs.engine.Engine.abandon.Goals as goal
 
 pub returns-in_err-check_place-clause-step : goal.returns-in_err-check_place-clause-step
@@ -36,4 +36,4 @@ returns-clause-step g c =
     let taken = taken_place (get_or e.places p None) (grind (arith, nat_tests)) in
     let there = stands g.S.Reads.meaning e p within (Some taken.0) taken.1 in
     left_after _ _ _ _ (place_set g.S.Reads.meaning e p within None)
-    (abandon_lifts g.S.Store.depth p s (chain_of taken.0) place there)
+    (abandon_is_step g.S.Store.depth p s (chain_of taken.0) place there)

@@ -9,7 +9,7 @@ use Rattle.engine.specs.Chains.{chain_of}
 use Rattle.engine.specs.Engines.{engine_of}
 use Rattle.engine.specs.Naming.{has_place}
 use Rattle.engine.proofs.EngineLemmas.{failed, passed, no_worker, worker_is, stands, place_set, answered, left_after, free_place, taken_place, refused_out}
-use Rattle.engine.proofs.CallLifts.{begin_lifts, begin_occupied}
+use Rattle.engine.proofs.PlainSteps.{begin_is_step, begin_is_refused}
 use Rattle.engine.proofs.engine.Engine.begin.Goals as goal
 
 pub returns-in_err-check_place-clause-step : goal.returns-in_err-check_place-clause-step
@@ -37,7 +37,7 @@ returns-then-is_some-clause-step g c =
     let there = stands g.S.Reads.meaning e p within (Some taken.0) taken.1 in
     answered s (Err _) (Err _) _
     (ap Err (c.refused.ensures ∙ ap (λ n. chain_fault n.place n.leg n.key PlaceOccupied) c.place-named.ensures))
-    (begin_occupied g.S.Store.depth p c.args.worker s (chain_of taken.0) range there)
+    (begin_is_refused g.S.Store.depth p c.args.worker s (chain_of taken.0) range there)
 
 pub returns-clause-step : goal.returns-clause-step
 returns-clause-step g c =
@@ -52,4 +52,4 @@ returns-clause-step g c =
     let there = stands g.S.Reads.meaning e p within None free in
     let opened = c.new.ensures ∙ ap model.new_chain worker.1 in
     left_after _ _ _ _ (place_set g.S.Reads.meaning e p within (Some c.new.result) ∙ ap (λ x. model.with_place p (Some x) s) opened)
-    (begin_lifts g.S.Store.depth p c.args.worker s range there)
+    (begin_is_step g.S.Store.depth p c.args.worker s range there)

@@ -1,6 +1,6 @@
 use Rattle.std.proofs.Common.{Err, sym, ap, ◌∙◌}
 use Rattle.engine.specs.Engines.{engine_of}
-use Rattle.engine.proofs.CallLifts.{deliver_lifts, no_notice_to_deliver}
+use Rattle.engine.proofs.PlainSteps.{deliver_is_step, no_notice_to_deliver}
 use Rattle.engine.proofs.EngineLemmas.{answered, left_after, caches_changed}
 use Rattle.engine.proofs.engine.Engine.deliver.Goals as goal
 
@@ -14,4 +14,4 @@ pub returns-clause-step : goal.returns-clause-step
 returns-clause-step g c =
     let s = engine_of g.S.Reads.meaning c.args.self.now in
     left_after _ _ _ _ (caches_changed g.S.Reads.meaning c.args.self.now c.tell.new.caches _ c.tell.ensures)
-    (deliver_lifts g.S.Store.depth c.args.position s c.in-Some.notice (sym c.get.ensures ∙ c.in-Some.is))
+    (deliver_is_step g.S.Store.depth c.args.position s c.in-Some.notice (sym c.get.ensures ∙ c.in-Some.is))

@@ -6,12 +6,12 @@ use Rattle.snapshot.specs.Refusals.{not_named}
 use Rattle.snapshot.specs.declared.fault.Refusal.TheVariants.{NotOpen}
 use Rattle.lives.specs.Steps.{chain_fault}
 use Rattle.engine.specs.Chains.{chain_of}
-use Rattle.engine.specs.ChainCalls.{forked}
+use Rattle.engine.specs.ChainCalls.{after_fork}
 use Rattle.engine.specs.Engines.{engine_of}
 use Rattle.engine.specs.Naming.{naming, has_leg}
 use Rattle.engine.specs.Workers.{number_of}
 use Rattle.engine.proofs.EngineLemmas.{failed, passed, no_worker, worker_is, stands, called, refused_out, refused_missing}
-use Rattle.engine.proofs.Lifts.{fork_lifts}
+use Rattle.engine.proofs.ChainSteps.{fork_is_step}
 use Rattle.engine.proofs.engine.Engine.fork.Goals as goal
 
 pub returns-in_err-check_leg-clause-step : goal.returns-in_err-check_leg-clause-step
@@ -59,8 +59,8 @@ returns-clause-step g c =
     let within : p < length e.places = grind (arith, nat_tests) in
     let there = stands g.S.Reads.meaning e p within (Some chain) c.in-Some.is in
     called g.S.Reads.meaning e p within c.fork.result c.fork.new.self _ _
-    (fork_lifts g.S.Store.depth p l c.args.first_worker c.args.second_worker (engine_of g.S.Reads.meaning e) (chain_of chain) range there)
+    (fork_is_step g.S.Store.depth p l c.args.first_worker c.args.second_worker (engine_of g.S.Reads.meaning e) (chain_of chain) range there)
     (c.fork.ensures.made
-    ∙ ap (λ k. forked k w v (chain_of chain)) c.leg-named.ensures
-    ∙ ap (λ x. forked n x v (chain_of chain)) first.1
-    ∙ ap (λ x. forked n c.args.first_worker x (chain_of chain)) second.1)
+    ∙ ap (λ k. after_fork k w v (chain_of chain)) c.leg-named.ensures
+    ∙ ap (λ x. after_fork n x v (chain_of chain)) first.1
+    ∙ ap (λ x. after_fork n c.args.first_worker x (chain_of chain)) second.1)

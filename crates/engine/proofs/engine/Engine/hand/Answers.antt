@@ -6,12 +6,12 @@ use Rattle.snapshot.specs.Refusals.{not_named}
 use Rattle.snapshot.specs.declared.fault.Refusal.TheVariants.{NotOpen}
 use Rattle.lives.specs.Steps.{chain_fault}
 use Rattle.engine.specs.Chains.{chain_of}
-use Rattle.engine.specs.ChainCalls.{handed}
+use Rattle.engine.specs.ChainCalls.{after_hand}
 use Rattle.engine.specs.Engines.{engine_of}
 use Rattle.engine.specs.Naming.{naming, has_leg}
 use Rattle.engine.specs.Workers.{number_of}
 use Rattle.engine.proofs.EngineLemmas.{failed, passed, no_worker, worker_is, stands, called, refused_out, refused_missing}
-use Rattle.engine.proofs.Lifts.{hand_lifts}
+use Rattle.engine.proofs.ChainSteps.{hand_is_step}
 use Rattle.engine.proofs.engine.Engine.hand.Goals as goal
 
 pub returns-in_err-check_leg-clause-step : goal.returns-in_err-check_leg-clause-step
@@ -50,7 +50,7 @@ returns-clause-step g c =
     let within : p < length e.places = grind (arith, nat_tests) in
     let there = stands g.S.Reads.meaning e p within (Some chain) c.in-Some.is in
     called g.S.Reads.meaning e p within c.hand.result c.hand.new.self _ _
-    (hand_lifts g.S.Store.depth p l c.args.worker (engine_of g.S.Reads.meaning e) (chain_of chain) range there)
+    (hand_is_step g.S.Store.depth p l c.args.worker (engine_of g.S.Reads.meaning e) (chain_of chain) range there)
     (c.hand.ensures.made
-    ∙ ap (λ k. handed k w (chain_of chain)) c.leg-named.ensures
-    ∙ ap (λ v. handed n v (chain_of chain)) worker.1)
+    ∙ ap (λ k. after_hand k w (chain_of chain)) c.leg-named.ensures
+    ∙ ap (λ v. after_hand n v (chain_of chain)) worker.1)

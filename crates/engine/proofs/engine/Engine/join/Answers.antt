@@ -6,12 +6,12 @@ use Rattle.snapshot.specs.Refusals.{not_named}
 use Rattle.snapshot.specs.declared.fault.Refusal.TheVariants.{NotOpen}
 use Rattle.lives.specs.Steps.{chain_fault}
 use Rattle.engine.specs.Chains.{chain_of}
-use Rattle.engine.specs.ChainCalls.{joined}
+use Rattle.engine.specs.ChainCalls.{after_join}
 use Rattle.engine.specs.Engines.{engine_of}
 use Rattle.engine.specs.Naming.{naming, has_leg}
 use Rattle.engine.specs.Workers.{number_of}
 use Rattle.engine.proofs.EngineLemmas.{failed, passed, no_worker, worker_is, stands, called, refused_out, refused_missing}
-use Rattle.engine.proofs.Lifts.{join_lifts}
+use Rattle.engine.proofs.ChainSteps.{join_is_step}
 use Rattle.engine.proofs.engine.Engine.join.Goals as goal
 
 pub returns-in_err-check_leg-clause-step : goal.returns-in_err-check_leg-clause-step
@@ -59,7 +59,7 @@ returns-clause-step g c =
     let within : p < length e.places = grind (arith, nat_tests) in
     let there = stands g.S.Reads.meaning e p within (Some chain) c.in-Some.is in
     called g.S.Reads.meaning e p within c.join.result c.join.new.self _ _
-    (join_lifts g.S.Store.depth p l j c.args.worker (engine_of g.S.Reads.meaning e) (chain_of chain) range there)
+    (join_is_step g.S.Store.depth p l j c.args.worker (engine_of g.S.Reads.meaning e) (chain_of chain) range there)
     (c.join.ensures.made
-    ∙ ap (λ k. joined k j w (chain_of chain)) c.leg-named.ensures
-    ∙ ap (λ x. joined n j x (chain_of chain)) worker.1)
+    ∙ ap (λ k. after_join k j w (chain_of chain)) c.leg-named.ensures
+    ∙ ap (λ x. after_join n j x (chain_of chain)) worker.1)

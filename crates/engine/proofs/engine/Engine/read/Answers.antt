@@ -6,7 +6,7 @@ use Rattle.engine.specs.Chains.{chain_of}
 use Rattle.engine.specs.Engines.{engine_of}
 use Rattle.engine.specs.Naming.{naming, has_key}
 use Rattle.engine.proofs.EngineLemmas.{failed, passed, stands, read_called, refused_out, refused_missing}
-use Rattle.engine.proofs.ReadLift.{read_lifts}
+use Rattle.engine.proofs.ReadStep.{read_is_step}
 use Rattle.engine.proofs.engine.Engine.read.Goals as goal
 
 pub returns-in_err-check_key-clause-step : goal.returns-in_err-check_key-clause-step
@@ -35,5 +35,5 @@ returns-clause-step g c =
     let within : p < length e.places = grind (arith, nat_tests) in
     let there = stands g.S.Reads.meaning e p within (Some chain) c.in-Some.is in
     read_called g.S.Reads.meaning e p within c.read.result c.read.new.self c.read.new.caches _
-    (read_lifts g.S.Store.depth p c.args.leg c.args.key (engine_of g.S.Reads.meaning e) (chain_of chain) range there
+    (read_is_step g.S.Store.depth p c.args.leg c.args.key (engine_of g.S.Reads.meaning e) (chain_of chain) range there
     _ _ _ c.read.ensures.made)

@@ -6,7 +6,7 @@ use Rattle.engine.specs.Chains.{chain_of}
 use Rattle.engine.specs.Engines.{engine_of}
 use Rattle.engine.specs.Naming.{naming, has_key}
 use Rattle.engine.proofs.EngineLemmas.{failed, passed, stands, called, refused_out, refused_missing}
-use Rattle.engine.proofs.Lifts.{write_lifts}
+use Rattle.engine.proofs.ChainSteps.{write_is_step}
 use Rattle.engine.proofs.engine.Engine.write.Goals as goal
 
 pub returns-in_err-check_key-clause-step : goal.returns-in_err-check_key-clause-step
@@ -35,5 +35,5 @@ returns-clause-step g c =
     let within : p < length e.places = grind (arith, nat_tests) in
     let there = stands g.S.Reads.meaning e p within (Some chain) c.in-Some.is in
     called g.S.Reads.meaning e p within c.write.result c.write.new.self _ _
-    (write_lifts g.S.Store.depth p c.args.leg c.args.key c.args.value (engine_of g.S.Reads.meaning e) (chain_of chain) range there)
+    (write_is_step g.S.Store.depth p c.args.leg c.args.key c.args.value (engine_of g.S.Reads.meaning e) (chain_of chain) range there)
     c.write.ensures.made

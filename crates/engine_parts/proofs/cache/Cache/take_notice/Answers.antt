@@ -1,14 +1,14 @@
 use Rattle.std.proofs.Common.{◌≡◌, ◌<◌, None, Some, length, sym, ◌∙◌, ap, rules}
 use Rattle.engine_parts.proofs.ListProofs.{something_there}
 use Rattle.std.specs.List.{slice_get}
-use Rattle.engine_parts.specs.Parts.{cached}
+use Rattle.engine_parts.specs.Caches.{cache_of}
 use Rattle.engine_parts.proofs.CacheLemmas.{place_of, nothing_told, told_at}
 use Rattle.engine_parts.proofs.cache.Cache.take_notice.Goals as goal
 
 pub returns-in_default : goal.returns-in_default
 returns-in_default c =
     let n = c.args.notice in
-    let xs = cached c.args.self.now in
+    let xs = cache_of c.args.self.now in
     let none : place_of n.key xs ≡ None =
     ap (place_of n.key) (sym c.as_slice.ensures.value) ∙ sym c.find.ensures.value ∙ c.in_default.is in
     sym (nothing_told n xs none)
@@ -16,7 +16,7 @@ returns-in_default c =
 pub returns-in-Some-get : goal.returns-in-Some-get
 returns-in-Some-get c =
     let n = c.args.notice in
-    let xs = cached c.args.self.now in
+    let xs = cache_of c.args.self.now in
     let i = c.in-Some.place in
     let e = c.in-Some-get.field-0 in
     let there : place_of n.key xs ≡ Some i =
@@ -27,6 +27,6 @@ returns-in-Some-get c =
 
 pub returns-in_default-get : goal.returns-in_default-get
 returns-in_default-get c =
-    let xs = cached c.args.self.now in
+    let xs = cache_of c.args.self.now in
     let within : c.in-Some.place < length xs = search rules in
     absurd (something_there xs c.in-Some.place within (sym c.get.ensures ∙ c.in_default-get.is))

@@ -1,7 +1,7 @@
 use Rattle.std.proofs.Common.{ℕ, [], slice_index_or, sym, ap, ◌∙◌, arith}
 use Rattle.lives.specs.Caches.{holds}
-use Rattle.engine_parts.specs.Parts.{cached}
-use Rattle.engine_parts.specs.WaitingNotices.{told, caches_of}
+use Rattle.engine_parts.specs.Caches.{cache_of, caches_of}
+use Rattle.engine_parts.specs.WaitingNotices.{notices_of}
 use Rattle.engine_parts.proofs.ItemLemmas.{item_there}
 use Rattle.engine_parts.proofs.NoticeLemmas.{one_is_told, one_is_not, one_write_less}
 use Rattle.engine_parts.proofs.notices.Notices.raise_for.Goals as goal
@@ -13,14 +13,14 @@ loop-worker-preserved c =
     let write = slice_index_or c.args.writes.now c.loop-write.write-index record { key = 0; value = 0 } in
     let n = c.loop-worker.worker in
     let holder = λ (n : ℕ). holds write.key (caches_of caches n) in
-    let there = item_there cached [] caches n record { entries = record { items = []; len = 0 } } (omega arith) in
+    let there = item_there cache_of [] caches n record { entries = record { items = []; len = 0 } } (omega arith) in
     elim c.if-holds.branch [
       | then-holds w ↦
-          ap told w.self-is
+          ap notices_of w.self-is
           ∙ w.raise.ensures
           ∙ one_is_told holder _ write n _ _ c.loop-worker.invariant (ap (holds write.key) there ∙ sym w.if-holds.ensures)
       | else-holds w ↦
-          ap told w.self-is
+          ap notices_of w.self-is
           ∙ one_is_not holder _ write n _ _ c.loop-worker.invariant (ap (holds write.key) there ∙ sym w.if-holds.ensures)
     ]
 

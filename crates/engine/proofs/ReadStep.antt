@@ -1,4 +1,5 @@
 -- A read: what it makes of its chain and of the caches is what the rules draw of the engine with these in their place.
+use Rattle.snapshot.specs.Intervals.{narrowed}
 use Rattle.std.proofs.Common.{◌≡◌, ℕ, true, ◌&&◌, Some, Ok, Err, Result, refl, ap, ◌∙◌}
 use Rattle.snapshot.specs.Limits.{is_key, is_place, is_leg}
 use Rattle.snapshot.specs.Refusals.{around_store}
@@ -8,16 +9,16 @@ use Rattle.snapshot.specs.declared.fault.Fault.{Fault}
 use Rattle.store.specs.Meaning.{version_answer, written_to}
 use Rattle.lives.specs.Caches.{Cache, answering}
 use Rattle.lives.specs.Engines.{OpenLeg, Chain, Engine}
-use Rattle.lives.specs.Steps.{Outcome, refused, accepted, own_reading}
+use Rattle.lives.specs.Steps.{after_reading, Outcome, refused, accepted, own_reading}
 use Rattle.lives.specs.Updates.{with_at}
 use Rattle.lives.specs.declared.calls.Call.TheVariants as call
-use Rattle.engine.specs.ChainCalls.{noted, read_on}
+use Rattle.engine.specs.ChainCalls.{after_read}
 use Rattle.engine.specs.Legs.{on_result}
-use Rattle.engine.specs.Drawn.{drawn}
+use Rattle.engine.specs.StepOf.{outcome_of, step_of}
 use Rattle.engine.specs.Naming.{naming}
 use Rattle.engine.specs.declared.named.Named.{Named}
-use Rattle.engine.proofs.Lifts.{WithEngine, outcome_from, stays}
-use Rattle.engine.proofs.Together.{both_check, both_open, both_else, both_result, where_passed, where_leg}
+use Rattle.engine.proofs.ChainSteps.{WithEngine, stays}
+use Rattle.engine.proofs.BothSides.{both_check, both_open, both_else, both_result, where_passed, where_leg}
 
 -- an answer, and the chain and the caches after it
 abbrev pub WithCaches : Type 0
@@ -33,22 +34,22 @@ abbrev pub read_placed : Engine → ℕ → WithCaches → WithEngine ℕ
 read_placed s p made = (made.0, with_caches s p made.1)
 
 abbrev ReadPlaced : Engine → ℕ → WithCaches → Outcome ℕ → Type 0
-ReadPlaced s p made o = read_placed s p made ≡ outcome_from s o
+ReadPlaced s p made o = read_placed s p made ≡ outcome_of s o
 
 -- an answer from the cache or the store is noted
-abbrev noted_in : Named → OpenLeg → Chain → (ℕ → Cache) → Result Reading Fault × Cache → WithCaches
-noted_in n leg c caches asked =
+abbrev answer_noted : Named → OpenLeg → Chain → (ℕ → Cache) → Result Reading Fault × Cache → WithCaches
+answer_noted n leg c caches asked =
     on_result asked.0
     (λ f. (Err (around_store f n.place n.leg n.key), (c, caches)))
-    (λ r. (Ok r.value, (noted n.leg n.key leg r c, with_at leg.worker asked.1 caches)))
+    (λ r. (Ok r.value, (after_reading narrowed n.leg n.key leg r c, with_at leg.worker asked.1 caches)))
 
 read_made :
     (depth p l k : ℕ) (s : Engine) (c : Chain) → (is_place p && is_leg l && is_key k) ≡ true → s.places p ≡ Some c →
-    read_placed s p (read_on (naming p l k) s.store (c, s.caches)) ≡ drawn depth (call.Read p l k) s
+    read_placed s p (after_read (naming p l k) s.store (c, s.caches)) ≡ step_of depth (call.Read p l k) s
 read_made depth p l k s c range here =
     let n : Named = naming p l k in
     let P : WithCaches → Outcome ℕ → Type 0 = ReadPlaced s p in
-    let made : WithCaches = read_on n s.store (c, s.caches) in
+    let made : WithCaches = after_read n s.store (c, s.caches) in
     let no_change : (f : EngineFault) → P (Err f, (c, s.caches)) (refused f) = λ f. ap (λ t. (Err f, t)) (stays s p c here) in
     let known : (x : ℕ) → P (Ok x, (c, s.caches)) (accepted x s) = λ x. ap (λ t. (Ok x, t)) (stays s p c here) in
     let of : WithCaches → WithCaches = λ m. m in
@@ -58,13 +59,13 @@ read_made depth p l k s c range here =
     both_else P of (written_to k leg.writes) _ _ _ _ (λ x. known x)
     (both_else P of (own_reading l k c.readings) _ _ _ _ (λ r. known _)
     (both_check P _ _ _ _ _ (no_change _)
-    (let asked : Result Reading Fault × Cache → WithCaches = noted_in n leg c s.caches in
+    (let asked : Result Reading Fault × Cache → WithCaches = answer_noted n leg c s.caches in
     both_else P asked (answering leg.interval k (s.caches leg.worker)) _ _ _ _ (λ e. refl)
     (both_result P asked (version_answer s.store k leg.interval.high) _ _ _ _ (λ f. no_change _) (λ r. refl))))))))
 
-pub read_lifts :
+pub read_is_step :
     (depth p l k : ℕ) (s : Engine) (c : Chain) → (is_place p && is_leg l && is_key k) ≡ true → s.places p ≡ Some c →
     (r : Result ℕ EngineFault) (c' : Chain) (caches' : ℕ → Cache) →
-    ◌≡◌ {A = WithCaches} (r, (c', caches')) (read_on (naming p l k) s.store (c, s.caches)) →
-    ◌≡◌ {A = WithEngine ℕ} (r, with_caches s p (c', caches')) (drawn depth (call.Read p l k) s)
-read_lifts depth p l k s c range here r c' caches' so = ap (read_placed s p) so ∙ read_made depth p l k s c range here
+    ◌≡◌ {A = WithCaches} (r, (c', caches')) (after_read (naming p l k) s.store (c, s.caches)) →
+    ◌≡◌ {A = WithEngine ℕ} (r, with_caches s p (c', caches')) (step_of depth (call.Read p l k) s)
+read_is_step depth p l k s c range here r c' caches' so = ap (read_placed s p) so ∙ read_made depth p l k s c range here

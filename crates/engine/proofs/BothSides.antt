@@ -9,7 +9,7 @@ use Rattle.snapshot.specs.declared.fault.Refusal.{Refusal}
 use Rattle.snapshot.specs.declared.fault.Refusal.TheVariants.{WriteSetFull}
 use Rattle.engine_parts.specs.WriteSets.{fit_or_refused}
 use Rattle.lives.specs.Engines.{OpenLeg, LegState, unused, running, ended, Chain}
-use Rattle.lives.specs.Steps.{Outcome, refused, check, with_chain, with_open, with_open_leg, if_free, with_result, or_else}
+use Rattle.lives.specs.Steps.{Outcome, refused, check, with_chain, with_open, with_open_leg, with_result, or_else}
 use Rattle.engine.specs.ChainCalls.{on_open}
 use Rattle.engine.specs.Legs.{on_result}
 
@@ -78,49 +78,14 @@ module _ {X : Type 0} (P : Outcome X → Type 0) where
   unfolding check
   where_passed ok f next passed on = subst (λ b. P (check b f next)) (sym passed) on
 
-  pub where_failed : (ok : Bool) (f : EngineFault) (next : Outcome X) → ok ≡ false → P (refused f) → P (check ok f next)
-  unfolding check
-  where_failed ok f next failed out = subst (λ b. P (check b f next)) (sym failed) out
-
   pub where_chain :
       (o : Option Chain) (f : EngineFault) (next : Chain → Outcome X) (c : Chain) → o ≡ Some c → P (next c) →
       P (with_chain o f next)
   unfolding with_chain
   where_chain o f next c here on = subst (λ o. P (with_chain o f next)) (sym here) on
 
-  pub where_no_chain :
-      (o : Option Chain) (f : EngineFault) (next : Chain → Outcome X) → o ≡ None → P (refused f) → P (with_chain o f next)
-  unfolding with_chain
-  where_no_chain o f next none out = subst (λ o. P (with_chain o f next)) (sym none) out
-
   pub where_leg :
       (o : Option Chain) (l : ℕ) (f : EngineFault) (next : Chain → OpenLeg → Outcome X) (c : Chain) → o ≡ Some c →
       P (with_open (c.legs l) f (next c)) → P (with_open_leg o l f next)
   unfolding with_open_leg
   where_leg o l f next c here on = where_chain o f (λ c. with_open (c.legs l) f (next c)) c here on
-
-  pub where_no_leg :
-      (o : Option Chain) (l : ℕ) (f : EngineFault) (next : Chain → OpenLeg → Outcome X) → o ≡ None → P (refused f) →
-      P (with_open_leg o l f next)
-  unfolding with_open_leg
-  where_no_leg o l f next none out = where_no_chain o f (λ c. with_open (c.legs l) f (next c)) none out
-
-  pub where_free : (o : Option Chain) (f : EngineFault) (next : Outcome X) → o ≡ None → P next → P (if_free o f next)
-  unfolding if_free
-  where_free o f next none on = subst (λ o. P (if_free o f next)) (sym none) on
-
-  pub where_occupied :
-      (o : Option Chain) (f : EngineFault) (next : Outcome X) (c : Chain) → o ≡ Some c → P (refused f) → P (if_free o f next)
-  unfolding if_free
-  where_occupied o f next c here out = subst (λ o. P (if_free o f next)) (sym here) out
-
-  pub where_found :
-      {Y : Type 0} (o : Option Y) (found : Y → Outcome X) (next : Outcome X) (y : Y) → o ≡ Some y → P (found y) →
-      P (or_else o found next)
-  unfolding or_else
-  where_found o found next y is on = subst (λ o. P (or_else o found next)) (sym is) on
-
-  pub where_not_found :
-      {Y : Type 0} (o : Option Y) (found : Y → Outcome X) (next : Outcome X) → o ≡ None → P next → P (or_else o found next)
-  unfolding or_else
-  where_not_found o found next none out = subst (λ o. P (or_else o found next)) (sym none) out

@@ -1,0 +1,97 @@
+-- Calls that are refused before they ask their chain, and calls that ask none: their answer, and the engine after it, are
+-- what the rules draw.
+use Rattle.std.proofs.Common.{◌≡◌, ℕ, Bool, true, false, ◌&&◌, Some, None, Ok, Err, Option, Result, refl}
+use Rattle.std.specs.List.{slice_get}
+use Rattle.snapshot.specs.Limits.{is_worker, is_place}
+use Rattle.snapshot.specs.Refusals.{not_named, own_fault, unnamed}
+use Rattle.snapshot.specs.declared.fault.EngineFault.{EngineFault}
+use Rattle.snapshot.specs.declared.fault.Layer.TheVariants as layer
+use Rattle.snapshot.specs.declared.fault.Refusal.TheVariants.{PlaceOccupied, NoSuchNotice}
+use Rattle.lives.specs.Caches.{with_notice}
+use Rattle.lives.specs.Engines.{OpenLeg, Chain, new_chain, without_notice, Engine, with_place, with_cache, with_notices}
+use Rattle.lives.specs.Steps.{Outcome, check, with_chain, with_open_leg, if_free, or_else, chain_fault}
+use Rattle.lives.specs.declared.calls.Call.TheVariants as call
+use Rattle.lives.specs.declared.records.Notice.{Notice}
+use Rattle.engine.specs.StepOf.{outcome_of, step_of}
+use Rattle.engine.proofs.ChainSteps.{WithEngine}
+
+-- this answer, and this engine after it, are what comes of a call
+abbrev pub ComesTo : {X : Type 0} → Engine → Result X EngineFault → Engine → Outcome X → Type 0
+ComesTo {X} s answer after o = ◌≡◌ {A = WithEngine X} (answer, after) (outcome_of s o)
+
+-- Refusals at the head of a call. They fit each call that begins with these checks.
+
+-- a number out of range
+pub out_of_range :
+    {X : Type 0} (ok : Bool) (f : EngineFault) (next : Outcome X) (s : Engine) → ok ≡ false →
+    ComesTo s (Err f) s (check ok f next)
+unfolding check
+out_of_range ok f next s failed = rw failed refl
+
+-- no chain at the place, in a call that names a leg
+pub no_chain :
+    {X : Type 0} (ok : Bool) (f : EngineFault) (o : Option Chain) (l : ℕ) (g : EngineFault)
+    (next : Chain → OpenLeg → Outcome X) (s : Engine) → ok ≡ true → o ≡ None →
+    ComesTo s (Err g) s (check ok f (with_open_leg o l g next))
+unfolding check with_open_leg with_chain
+no_chain {X} ok f o l g next s passed none = rw (passed, none) refl
+
+-- no chain at the place, in a call that names none of its legs
+pub no_chain_at_all :
+    {X : Type 0} (ok : Bool) (f : EngineFault) (o : Option Chain) (g : EngineFault) (next : Chain → Outcome X) (s : Engine) →
+    ok ≡ true → o ≡ None → ComesTo s (Err g) s (check ok f (with_chain o g next))
+unfolding check with_chain
+no_chain_at_all {X} ok f o g next s passed none = rw (passed, none) refl
+
+-- Begin and abandon.
+
+pub begin_is_step :
+    (depth p w : ℕ) (s : Engine) → (is_place p && is_worker w) ≡ true → s.places p ≡ None →
+    ◌≡◌ {A = WithEngine ℕ} (Ok 0, with_place p (Some (new_chain w)) s) (step_of depth (call.Begin p w) s)
+unfolding check if_free
+begin_is_step depth p w s range free = rw (range, free) refl
+
+pub begin_is_refused :
+    (depth p w : ℕ) (s : Engine) (c : Chain) → (is_place p && is_worker w) ≡ true → s.places p ≡ Some c →
+    ◌≡◌ {A = WithEngine ℕ} (Err (chain_fault p not_named not_named PlaceOccupied), s) (step_of depth (call.Begin p w) s)
+unfolding check if_free
+begin_is_refused depth p w s c range here = rw (range, here) refl
+
+pub abandon_is_step :
+    (depth p : ℕ) (s : Engine) (c : Chain) → is_place p ≡ true → s.places p ≡ Some c →
+    ◌≡◌ {A = WithEngine (Unit {0})} (Ok tt, with_place p None s) (step_of depth (call.Abandon p) s)
+unfolding check with_chain
+abandon_is_step depth p s c range here = rw (range, here) refl
+
+-- Deliver and discard.
+
+pub deliver_is_step :
+    (depth i : ℕ) (s : Engine) (n : Notice) → slice_get s.notices.waiting i ≡ Some n →
+    ◌≡◌ {A = WithEngine (Unit {0})}
+    (Ok tt, with_cache n.worker (with_notice n (s.caches n.worker)) s)
+    (step_of depth (call.Deliver i) s)
+unfolding or_else
+deliver_is_step depth i s n there = rw there refl
+
+pub discard_is_step :
+    (depth i : ℕ) (s : Engine) (n : Notice) → slice_get s.notices.waiting i ≡ Some n →
+    ◌≡◌ {A = WithEngine (Unit {0})}
+    (Ok tt, with_notices (without_notice i s.notices) s)
+    (step_of depth (call.Discard i) s)
+unfolding or_else
+discard_is_step depth i s n there = rw there refl
+
+abbrev no_notice : EngineFault
+no_notice = own_fault (unnamed NoSuchNotice layer.Notices)
+
+pub no_notice_to_deliver :
+    (depth i : ℕ) (s : Engine) → slice_get s.notices.waiting i ≡ None →
+    ◌≡◌ {A = WithEngine (Unit {0})} (Err no_notice, s) (step_of depth (call.Deliver i) s)
+unfolding or_else
+no_notice_to_deliver depth i s none = rw none refl
+
+pub no_notice_to_discard :
+    (depth i : ℕ) (s : Engine) → slice_get s.notices.waiting i ≡ None →
+    ◌≡◌ {A = WithEngine (Unit {0})} (Err no_notice, s) (step_of depth (call.Discard i) s)
+unfolding or_else
+no_notice_to_discard depth i s none = rw none refl
