@@ -1,5 +1,6 @@
 -- What the calls that name a leg make of its chain: an answer or a fault, and the chain after it. A read also asks the
--- caches and the store, and changes the cache of the leg's worker.
+-- caches and the store, and changes the cache of the leg's worker. This stands between the code of a chain and the model's
+-- step: each is shown to be the step once the chain stands in its place, and the contracts of the engine cite the step.
 use Rattle.std.specs.Prelude.{ℕ, suc, if◌then◌else◌, length, Ok, Err, Result, nat_lt, ◌==◌}
 use Rattle.std.specs.Option.{option_map_or}
 use Rattle.snapshot.specs.Intervals.{narrowed}
@@ -31,11 +32,13 @@ on_open state other next = option_map_or next (open_in state) other
 
 -- Legs that end and open.
 
+-- a leg ends, and the next opens at worker w
 abbrev pub after_hand : Named → ℕ → Chain → Result ℕ EngineFault × Chain
 after_hand n w c =
     on_open (c.legs n.leg) (refused_with n c NotOpen) (λ leg.
     if nat_lt c.opened legs then (Ok c.opened, open_leg (on_worker w leg) (end_leg n.leg c)) else refused_with n c TooManyLegs)
 
+-- a leg ends, and two open at workers w and v
 abbrev pub after_fork : Named → ℕ → ℕ → Chain → Result (ℕ × ℕ) EngineFault × Chain
 after_fork n w v c =
     on_open (c.legs n.leg) (refused_with n c NotOpen) (λ leg.
@@ -43,6 +46,7 @@ after_fork n w v c =
     then (Ok (c.opened, suc c.opened), open_leg (on_worker v leg) (open_leg (on_worker w leg) (end_leg n.leg c)))
     else refused_with n c TooManyLegs)
 
+-- a leg and leg j end, and one opens at worker w with the times and the writes of both
 abbrev pub after_join : Named → ℕ → ℕ → Chain → Result ℕ EngineFault × Chain
 after_join n j w c =
     on_open (c.legs n.leg) (refused_with n c NotOpen) (λ leg.
@@ -57,6 +61,7 @@ after_join n j w c =
 
 -- Writes.
 
+-- the call's key has value x in the leg's write set
 abbrev pub after_write : Named → ℕ → Chain → Result (Unit {0}) EngineFault × Chain
 after_write n x c =
     on_open (c.legs n.leg) (refused_with n c NotOpen) (λ leg.
@@ -73,7 +78,7 @@ further_reading m i k cache =
     (answering i k cache)
     (on_result (version_answer m k i.high) (λ f. (Err f, cache)) (λ r. (Ok r, with_answer i.high (entry_of k r) cache)))
 
--- the caches and the chain after a read that went further than the leg
+-- a value from the cache or the store: the reading is noted in the chain, and the cache of the leg's worker changes
 abbrev pub after_further_read : Named → Meaning → OpenLeg → Chain × (ℕ → Cache) → Result ℕ EngineFault × (Chain × (ℕ → Cache))
 after_further_read n m leg (c, caches) =
     let (answer, cache) = further_reading m leg.interval n.key (caches leg.worker) in
@@ -81,6 +86,7 @@ after_further_read n m leg (c, caches) =
     (λ f. (Err (around_store f n.place n.leg n.key), (c, caches)))
     (λ r. (Ok r.value, (after_reading narrowed n.leg n.key leg r c, with_at leg.worker cache caches)))
 
+-- a value from the leg's write set, or else from a reading of its own, or else from its worker's cache or the store
 abbrev pub after_read : Named → Meaning → Chain × (ℕ → Cache) → Result ℕ EngineFault × (Chain × (ℕ → Cache))
 after_read n m (c, caches) =
     on_open (c.legs n.leg) (refused_with n (c, caches) NotOpen) (λ leg.

@@ -4,5 +4,6 @@ use Rattle.lives.specs.Engines as model
 use Rattle.engine.specs.Legs.{leg_of}
 use Rattle.engine.specs.declared.chain.Chain.{Chain}
 
+-- its legs by their numbers, how many have been opened, and its readings in order
 abbrev pub chain_of : Chain → model.Chain
 chain_of c = record { legs = item_at leg_of model.unused c.legs; opened = c.opened; readings = entries c.readings }

@@ -13,6 +13,7 @@ use Rattle.engine.specs.Chains.{chain_of}
 use Rattle.engine.specs.StepOf.{step_of}
 use Rattle.engine.specs.declared.engine.Engine.{Engine}
 
+-- the chain at each place, the cache of each worker, the notices, and the store below by its own meaning
 abbrev pub engine_of : {S : Type 0} → (S → Meaning) → Engine S → model.Engine
 engine_of meaning e =
     record {

@@ -14,15 +14,17 @@ use Rattle.engine.specs.declared.leg.LegCall.{LegCall}
 use Rattle.engine.specs.declared.leg.LegCall.TheVariants as call
 use Rattle.engine.specs.declared.leg.OpenLeg.{OpenLeg}
 
+-- a leg that is open, as the model tells it
 abbrev pub open_leg_of : OpenLeg → model.OpenLeg
 open_leg_of o = record { worker = number_of o.worker; interval = o.interval; writes = writes_of o.writes }
 
+-- a leg by its number: unused, running or ended
 abbrev pub leg_of : Leg → model.LegState
 leg_of leg.Unused = model.unused
 leg_of (leg.Open o) = model.running (open_leg_of o)
 leg_of leg.Ended = model.ended
 
--- a leg that is open
+-- the open leg, if the leg is open
 abbrev pub open_in : model.LegState → Option model.OpenLeg
 open_in model.unused = None
 open_in (model.running l) = Some l

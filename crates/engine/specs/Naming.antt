@@ -6,18 +6,20 @@ use Rattle.snapshot.specs.declared.fault.Refusal.TheVariants.{OutOfRange}
 use Rattle.lives.specs.Steps.{chain_fault}
 use Rattle.engine.specs.declared.named.Named.{Named}
 
+-- the place, leg and key that a call names
 abbrev pub naming : ℕ → ℕ → ℕ → Named
 naming p l k = record { place = p; leg = l; key = k }
 
+-- refused as out of range unless the test passed
 abbrev pub in_range_or_refused : Named → Bool → Result (Unit {0}) EngineFault
 in_range_or_refused n ok = if ok then Ok tt else Err (chain_fault n.place n.leg n.key OutOfRange)
 
--- are the numbers of a call that names a place in range, or a leg, or a key?
-abbrev pub has_place : Named → Bool
-has_place n = is_place n.place
+-- are the numbers in range of a call that names a place, a leg, or a key?
+abbrev pub place_in_range : Named → Bool
+place_in_range n = is_place n.place
 
-abbrev pub has_leg : Named → Bool
-has_leg n = has_place n && is_leg n.leg
+abbrev pub leg_in_range : Named → Bool
+leg_in_range n = place_in_range n && is_leg n.leg
 
-abbrev pub has_key : Named → Bool
-has_key n = has_leg n && is_key n.key
+abbrev pub key_in_range : Named → Bool
+key_in_range n = leg_in_range n && is_key n.key

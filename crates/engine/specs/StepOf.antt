@@ -10,5 +10,6 @@ use Rattle.lives.specs.declared.calls.Call.{Call}
 abbrev pub outcome_of : {X : Type 0} → Engine → Outcome X → Result X EngineFault × Engine
 outcome_of s o = (answer_in o, engine_in s o)
 
+-- and by the rules in force, over a store of this depth
 abbrev pub step_of : (depth : ℕ) (c : Call) → Engine → Result (AnswerTo c) EngineFault × Engine
 step_of depth c s = outcome_of s (step the_rules depth c s)

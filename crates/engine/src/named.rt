@@ -4,7 +4,7 @@ ghost use Rattle.std.specs.Result.{result_and, result_map_both};
 ghost use Rattle.snapshot.specs.Limits.{is_worker};
 ghost use Rattle.snapshot.specs.Refusals.{not_named, around_store};
 ghost use Rattle.lives.specs.Steps.{chain_fault};
-ghost use Rattle.engine.specs.Naming.{naming, in_range_or_refused, has_place, has_leg, has_key};
+ghost use Rattle.engine.specs.Naming.{naming, in_range_or_refused, place_in_range, leg_in_range, key_in_range};
 ghost use Rattle.engine.specs.Workers.{number_of};
 
 use crate::worker::Worker;
@@ -39,21 +39,21 @@ impl Named {
 
     // Refused where there is no such place.
     pub(crate) fn check_place(self) -> Result<(), EngineFault>
-        ensures { result ≡ in_range_or_refused self (has_place self) }
+        ensures { result ≡ in_range_or_refused self (place_in_range self) }
     {
         self.check(is_place(self.place))
     }
 
     // Refused where there is no such place or leg.
     pub(crate) fn check_leg(self) -> Result<(), EngineFault>
-        ensures { result ≡ in_range_or_refused self (has_leg self) }
+        ensures { result ≡ in_range_or_refused self (leg_in_range self) }
     {
         self.check(is_place(self.place) && is_leg(self.leg))
     }
 
     // Refused where there is no such place, leg or key.
     pub(crate) fn check_key(self) -> Result<(), EngineFault>
-        ensures { result ≡ in_range_or_refused self (has_key self) }
+        ensures { result ≡ in_range_or_refused self (key_in_range self) }
     {
         self.check(is_place(self.place) && is_leg(self.leg) && is_key(self.key))
     }

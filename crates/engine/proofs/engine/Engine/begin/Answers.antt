@@ -7,14 +7,14 @@ use Rattle.lives.specs.Engines as model
 use Rattle.lives.specs.Steps.{chain_fault}
 use Rattle.engine.specs.Chains.{chain_of}
 use Rattle.engine.specs.Engines.{engine_of}
-use Rattle.engine.specs.Naming.{has_place}
+use Rattle.engine.specs.Naming.{place_in_range}
 use Rattle.engine.proofs.EngineLemmas.{failed, passed, no_worker, worker_is, stands, place_set, answered, left_after, free_place, taken_place, refused_out}
 use Rattle.engine.proofs.PlainSteps.{begin_is_step, begin_is_refused}
 use Rattle.engine.proofs.engine.Engine.begin.Goals as goal
 
 pub returns-in_err-check_place-clause-step : goal.returns-in_err-check_place-clause-step
 returns-in_err-check_place-clause-step g c =
-    let out = failed has_place _ _ _ _ c.place-named.ensures c.check_place.ensures c.in_err-check_place.was in
+    let out = failed place_in_range _ _ _ _ c.place-named.ensures c.check_place.ensures c.in_err-check_place.was in
     let exit = err_from_is_err_and c.from_residual.result c.from_residual.ensures.1 in
     refused_out _ _ _ _ _ _ (exit.1 ∙ ap Err exit.2) out.1 (grind (arith, nat_tests))
 
@@ -29,7 +29,7 @@ returns-then-is_some-clause-step g c =
     let e = c.args.self.now in
     let p = c.args.place in
     let s = engine_of g.S.Reads.meaning e in
-    let place = passed has_place _ _ _ _ c.place-named.ensures c.check_place.ensures c.in_ok-check_place.was in
+    let place = passed place_in_range _ _ _ _ c.place-named.ensures c.check_place.ensures c.in_ok-check_place.was in
     let worker = worker_is _ c.args.worker _ _ c.worker.ensures c.in_ok-worker.was in
     let range : (is_place p && is_worker c.args.worker) ≡ true = grind (arith, nat_tests) in
     let within : p < length e.places = grind (arith, nat_tests) in
@@ -44,7 +44,7 @@ returns-clause-step g c =
     let e = c.args.self.now in
     let p = c.args.place in
     let s = engine_of g.S.Reads.meaning e in
-    let place = passed has_place _ _ _ _ c.place-named.ensures c.check_place.ensures c.in_ok-check_place.was in
+    let place = passed place_in_range _ _ _ _ c.place-named.ensures c.check_place.ensures c.in_ok-check_place.was in
     let worker = worker_is _ c.args.worker _ _ c.worker.ensures c.in_ok-worker.was in
     let range : (is_place p && is_worker c.args.worker) ≡ true = grind (arith, nat_tests) in
     let within : p < length e.places = grind (arith, nat_tests) in

@@ -8,7 +8,7 @@ use Rattle.lives.specs.Steps.{chain_fault}
 use Rattle.engine.specs.Chains.{chain_of}
 use Rattle.engine.specs.ChainCalls.{after_join}
 use Rattle.engine.specs.Engines.{engine_of}
-use Rattle.engine.specs.Naming.{naming, has_leg}
+use Rattle.engine.specs.Naming.{naming, leg_in_range}
 use Rattle.engine.specs.Workers.{number_of}
 use Rattle.engine.proofs.EngineLemmas.{failed, passed, no_worker, worker_is, stands, called, refused_out, refused_missing}
 use Rattle.engine.proofs.ChainSteps.{join_is_step}
@@ -16,7 +16,7 @@ use Rattle.engine.proofs.engine.Engine.join.Goals as goal
 
 pub returns-in_err-check_leg-clause-step : goal.returns-in_err-check_leg-clause-step
 returns-in_err-check_leg-clause-step g c =
-    let out = failed has_leg _ _ _ _ c.leg-named.ensures c.check_leg.ensures c.in_err-check_leg.was in
+    let out = failed leg_in_range _ _ _ _ c.leg-named.ensures c.check_leg.ensures c.in_err-check_leg.was in
     let exit = err_from_is_err_and c.from_residual.result c.from_residual.ensures.1 in
     refused_out _ _ _ _ _ _ (exit.1 ∙ ap Err exit.2) out.1 (grind (arith, nat_tests))
 
@@ -36,7 +36,7 @@ pub returns-in_default-clause-step : goal.returns-in_default-clause-step
 returns-in_default-clause-step g c =
     let e = c.args.self.now in
     let p = c.args.place in
-    let leg = passed has_leg _ _ _ _ c.leg-named.ensures c.check_leg.ensures c.in_ok-check_leg.was in
+    let leg = passed leg_in_range _ _ _ _ c.leg-named.ensures c.check_leg.ensures c.in_ok-check_leg.was in
     let second = passed (λ n. c.is_leg.result) _ _ _ _ c.leg-named.ensures c.check.ensures c.in_ok-check.was in
     let worker = worker_is _ c.args.worker _ _ c.worker.ensures c.in_ok-worker.was in
     let within : p < length e.places = grind (arith, nat_tests) in
@@ -52,7 +52,7 @@ returns-clause-step g c =
     let n = naming p l not_named in
     let chain = c.in-Some.chain in
     let w = number_of c.in_ok-worker.worker in
-    let leg = passed has_leg _ _ _ _ c.leg-named.ensures c.check_leg.ensures c.in_ok-check_leg.was in
+    let leg = passed leg_in_range _ _ _ _ c.leg-named.ensures c.check_leg.ensures c.in_ok-check_leg.was in
     let second = passed (λ n. c.is_leg.result) _ _ _ _ c.leg-named.ensures c.check.ensures c.in_ok-check.was in
     let worker = worker_is _ c.args.worker _ _ c.worker.ensures c.in_ok-worker.was in
     let range : (is_place p && is_leg l && is_leg j && is_worker c.args.worker) ≡ true = grind (arith, nat_tests) in
