@@ -205,7 +205,7 @@ impl<S: Store> Engine<S> {
     }
 }
 
-// The cache of a notice's worker takes it.
+// The cache of a notice's worker takes it. A notice of a worker that is not one of the eight reaches no cache.
 fn tell(caches: &mut [Cache; CACHES], notice: Notice)
     ensures { caches_of caches.new ≡ with_at notice.worker (with_notice notice (caches_of caches.old notice.worker)) (caches_of caches.old) }
 {

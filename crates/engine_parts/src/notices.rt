@@ -82,5 +82,3 @@ impl Notices {
         }
     }
 }
-
-// What stands in the list where no notice waits.
