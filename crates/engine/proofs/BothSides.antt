@@ -78,7 +78,7 @@ module _ {X : Type 0} (P : Outcome X → Type 0) where
   unfolding check
   where_passed ok f next passed on = subst (λ b. P (check b f next)) (sym passed) on
 
-  pub where_chain :
+  where_chain :
       (o : Option Chain) (f : EngineFault) (next : Chain → Outcome X) (c : Chain) → o ≡ Some c → P (next c) →
       P (with_chain o f next)
   unfolding with_chain

@@ -36,7 +36,7 @@ leg_opened c o lt =
     ∙ ap (C (model.open_leg (open_leg_of o) (chain_of c)).legs) (add-one c.opened)
 
 -- a leg that is open ends
-pub open_ends : (state : model.LegState) (o : model.OpenLeg) → open_in state ≡ Some o → (after_call call.End state).1 ≡ model.ended
+open_ends : (state : model.LegState) (o : model.OpenLeg) → open_in state ≡ Some o → (after_call call.End state).1 ≡ model.ended
 open_ends model.unused o e = absurd cc
 open_ends (model.running l) o e = refl
 open_ends model.ended o e = absurd cc

@@ -34,7 +34,7 @@ abbrev pub WithEngine : Type 0 → Type 0
 WithEngine X = Result X EngineFault × Engine
 
 -- the same answer, and the engine with the chain at a place
-abbrev pub placed : {X : Type 0} → Engine → ℕ → WithChain X → WithEngine X
+abbrev placed : {X : Type 0} → Engine → ℕ → WithChain X → WithEngine X
 placed s p made = (made.0, with_place p (Some made.1) s)
 
 -- whatever answer and chain are what is made of a chain, that answer and the engine with that chain are what is drawn
@@ -47,7 +47,7 @@ by_placing : {X : Type 0} (s : Engine) (p : ℕ) (made : WithChain X) (step : Wi
 by_placing s p made step same r c so = ap (placed s p) so ∙ same
 
 -- the same of what a step comes to
-abbrev pub Placed : {X : Type 0} → Engine → ℕ → WithChain X → Outcome X → Type 0
+abbrev Placed : {X : Type 0} → Engine → ℕ → WithChain X → Outcome X → Type 0
 Placed s p made o = placed s p made ≡ outcome_of s o
 
 unchanged :

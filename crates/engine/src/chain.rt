@@ -66,7 +66,6 @@ impl Chain {
         if self.opened >= LEGS {
             return Err(named.refused(Refusal::TooManyLegs));
         }
-        // The leg is open, so this is not refused; nor is it below.
         let _ = self.change(named.leg, LegCall::End);
         Ok(self.open(next))
     }
@@ -224,7 +223,8 @@ impl Chain {
         self.legs.get(leg as usize)?.as_open()
     }
 
-    // Changes a leg as the call says, or refuses as the leg does.
+    // Changes a leg as the call says, or refuses as the leg does. A leg that has been found open is refused neither its end
+    // nor a narrower interval, so that a caller may drop that answer.
     fn change(&mut self, leg: u8, call: LegCall) -> Result<(), Refusal>
         requires { leg < 16 }
         ensures answer { result ≡ (after_call call ((chain_of self.old).legs leg)).0 }

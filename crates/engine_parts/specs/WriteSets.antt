@@ -7,7 +7,7 @@ use Rattle.snapshot.specs.declared.fault.Refusal.TheVariants.{WriteSetFull}
 use Rattle.engine_parts.specs.Lists.{entries}
 use Rattle.engine_parts.specs.declared.write_set.WriteSet.{WriteSet}
 
--- the writes, in rising order of their keys
+-- the writes, from the first to the last
 abbrev pub writes_of : WriteSet → List Write
 writes_of s = entries s.writes
 

@@ -1,4 +1,4 @@
-// What an engine is made of.
+// What an engine is made of: lists of bounded length, caches, write sets, and the list of notices.
 #![tactic(auto)]
 
 pub mod cache;
