@@ -7,7 +7,7 @@ use Rattle.snapshot.specs.Accounts.{Account, account_of, head_of}
 use Rattle.snapshot.specs.declared.account.ChainReading.{ChainReading}
 use Rattle.snapshot.specs.declared.account.Write.{Write}
 use Rattle.snapshot.specs.declared.fault.Refusal.{Refusal}
-use Rattle.book.specs.Bytes.{overwritten}
+use Rattle.snapshot.specs.Overwriting.{overwritten}
 use Rattle.book.specs.Calls.{faulted, front_for}
 use Rattle.book.specs.Format.{account_from, bytes_of, counts_in, framed, front_account, lawful_only, size_of}
 use Rattle.book.specs.Theorems.{Accepted, IsWritten}

@@ -4,11 +4,12 @@ use Rattle.std.proofs.lemmas.List.{append_assoc, drop_at, length-append, take_at
 use Rattle.std.proofs.lemmas.Bool.{le-leb}
 use Rattle.std.specs.List.{flat_map}
 use Rattle.snapshot.specs.Accounts.{Account, lawful}
-use Rattle.book.specs.Bytes.{exclusive_or, overwritten}
+use Rattle.snapshot.specs.Overwriting.{overwritten}
+use Rattle.book.specs.Bytes.{exclusive_or}
 use Rattle.book.specs.Calls.{front_for}
 use Rattle.book.specs.Format.{reading_bytes, write_bytes, head_bytes, body_bytes, bytes_of, front_account}
 use Rattle.book.specs.Theorems.{ValuesFit, ReadsBackAnywhere}
-use Rattle.book.proofs.Placing.{one_more}
+use Rattle.snapshot.proofs.Overwritten.{one_more}
 use Rattle.book.proofs.RoundTrip.{written_reads_back}
 
 module _ (a : Account) (law : lawful a ≡ true) where

@@ -1,5 +1,5 @@
 -- Numbers as bytes, highest first, records one after another, and the exclusive-or of bytes.
-use Rattle.std.specs.Prelude.{◌≡◌, ℕ, zero, suc, ◌*◌, ◌/◌, ◌%◌, ◌^◌, ◌<◌, List, [], ◌∷◌, ◌++◌, length, take, drop, fold, bit_xor, slice_index, slice_set}
+use Rattle.std.specs.Prelude.{◌≡◌, ℕ, zero, suc, ◌*◌, ◌/◌, ◌%◌, ◌^◌, ◌<◌, List, [], ◌∷◌, length, take, drop, fold, bit_xor, slice_index, slice_set}
 use Rattle.std.specs.Int.Digits.{number_from_digits}
 
 -- the lowest k bytes of n, highest first
@@ -23,7 +23,3 @@ exclusive_or bs = fold bit_xor 0 bs
 -- one changed byte changes the exclusive-or: where it is the same, the byte is as it was
 abbrev pub TellsOneChange : List ℕ → Type 0
 TellsOneChange bs = (i b : ℕ) → i < length bs → exclusive_or (slice_set bs i b) ≡ exclusive_or bs → b ≡ slice_index bs i
-
--- a list whose first elements are replaced by these
-abbrev pub overwritten : {X : Type 0} → List X → List X → List X
-overwritten new old = new ++ drop (length new) old

@@ -8,7 +8,7 @@ use Rattle.snapshot.specs.declared.fault.BookFault.{BookFault}
 use Rattle.snapshot.specs.declared.fault.Refusal.{Refusal}
 use Rattle.snapshot.specs.declared.fault.Refusal.TheVariants.{TooShort, Unlawful}
 use Rattle.book.specs.declared.reader.AccountAt.{AccountAt}
-use Rattle.book.specs.Bytes.{overwritten}
+use Rattle.snapshot.specs.Overwriting.{overwritten}
 use Rattle.book.specs.Format.{bytes_of, check, front_account}
 
 -- a refusal with the byte place at which the account starts

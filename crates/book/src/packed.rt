@@ -2,7 +2,8 @@
 ghost use Rattle.std.specs.Prelude.{◌≡◌, ℕ, ◌+◌, ◌*◌, ◌≤◌, List, length, refl};
 ghost use Rattle.std.specs.List.{flat_map};
 ghost use Rattle.snapshot.specs.Limits.{chain_readings, write_keys};
-ghost use Rattle.book.specs.Bytes.{overwritten, records_from};
+ghost use Rattle.snapshot.specs.Overwriting.{overwritten};
+ghost use Rattle.book.specs.Bytes.{records_from};
 ghost use Rattle.book.specs.Format.{head_size, reading_bytes, reading_from, reading_size, size_of, write_bytes, write_from, write_size};
 
 use arrayvec::ArrayVec;

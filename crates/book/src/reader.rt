@@ -2,7 +2,7 @@
 ghost use Rattle.std.specs.Prelude.{◌≡◌, ◌+◌, ◌^◌, ◌<◌, ◌≤◌, if◌then◌else◌, length, drop, IfOk, None, Ok, Some};
 ghost use Rattle.snapshot.specs.Accounts.{head_of, lawful};
 ghost use Rattle.snapshot.specs.Limits.{chain_readings, write_keys};
-ghost use Rattle.book.specs.Bytes.{overwritten};
+ghost use Rattle.snapshot.specs.Overwriting.{overwritten};
 ghost use Rattle.book.specs.Calls.{faulted, located, read_at, readings_of, writes_of};
 ghost use Rattle.book.specs.Format.{account_from, bytes_of, counts_in, framed, front_account, size_of, told};
 ghost use Rattle.book.specs.Theorems.{AcceptedOnly, IsWritten};

@@ -1,6 +1,6 @@
 // Writing an account into a buffer of the caller's.
 ghost use Rattle.std.specs.Prelude.{◌≡◌, ◌≤◌, true, length, is_ok};
-ghost use Rattle.book.specs.Bytes.{overwritten};
+ghost use Rattle.snapshot.specs.Overwriting.{overwritten};
 ghost use Rattle.book.specs.Calls.{buffer_after, faulted, writing};
 ghost use Rattle.book.specs.Format.{bytes_of, head_bytes, head_size, told};
 ghost use Rattle.book.specs.Theorems.{ReadsBackAnywhere};

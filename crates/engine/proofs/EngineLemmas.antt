@@ -110,7 +110,7 @@ module _ {S : Type 0} (meaning : S → Meaning) (e : Engine S) (p : ℕ) (within
   called {X} r after made step lift is = ap (λ s. let t : WithEngine X = (r, s) in t) (place_set (Some after)) ∙ lift r (chain_of after) is
 
   -- a place that was looked at and left
-  left : engine_of meaning (record e { places = set e.places p (get_or e.places p None) }) ≡ engine_of meaning e
+  pub left : engine_of meaning (record e { places = set e.places p (get_or e.places p None) }) ≡ engine_of meaning e
   left = ap (λ ps. engine_of meaning (record e { places = ps })) (set-get_or e.places p None)
 
 -- An answer, or an engine, in the place of one that is the same.

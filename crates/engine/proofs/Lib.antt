@@ -6,3 +6,7 @@ pub mod ReadStep
 pub mod PlainSteps
 pub mod EngineLemmas
 pub mod CacheLemmas
+pub mod CommitLemmas
+pub mod CommitStep
+pub mod PerformLemmas
+pub mod LifeLemmas

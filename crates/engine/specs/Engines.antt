@@ -1,6 +1,9 @@
 -- What an engine means in the model: its chains, its caches, its notices, and what its store means.
-use Rattle.std.specs.Prelude.{◌≡◌, ℕ, None, Result}
+use Rattle.std.specs.Prelude.{◌≡◌, ℕ, List, None, Result}
 use Rattle.std.specs.Option.{option_map}
+use Rattle.snapshot.specs.declared.account.AccountHead.{AccountHead}
+use Rattle.snapshot.specs.declared.account.ChainReading.{ChainReading}
+use Rattle.snapshot.specs.declared.account.Write.{Write}
 use Rattle.snapshot.specs.declared.fault.EngineFault.{EngineFault}
 use Rattle.store.specs.Meaning.{Meaning}
 use Rattle.engine_parts.specs.Lists.{item_at}
@@ -9,7 +12,9 @@ use Rattle.engine_parts.specs.WaitingNotices.{notices_of}
 use Rattle.lives.specs.Engines as model
 use Rattle.lives.specs.Steps.{AnswerTo}
 use Rattle.lives.specs.declared.calls.Call.{Call}
+use Rattle.lives.specs.declared.calls.Call.TheVariants as call
 use Rattle.engine.specs.Chains.{chain_of}
+use Rattle.engine.specs.Commits.{handed_back}
 use Rattle.engine.specs.StepOf.{step_of}
 use Rattle.engine.specs.declared.engine.Engine.{Engine}
 
@@ -30,3 +35,18 @@ IsStep meaning depth c before answer after =
     ◌≡◌ {A = Result (AnswerTo c) EngineFault × model.Engine}
     (answer, engine_of meaning after)
     (step_of depth c (engine_of meaning before))
+
+-- the two lists of a commit's caller
+abbrev pub Lists : Type 0
+Lists = List ChainReading × List Write
+
+-- what a commit answers, its caller's two lists and the engine after are those that the rules draw from the numbers that it names,
+-- the room in the lists, the lists and the engine before
+abbrev pub IsCommit :
+    {S : Type 0} → (S → Meaning) → (depth place leg clock r w : ℕ) → Engine S → Lists → Result AccountHead EngineFault → Lists →
+    Engine S → Type 0
+IsCommit meaning depth place leg clock r w before lists answer lists_after after =
+    let drawn = step_of depth (call.Commit place leg clock r w) (engine_of meaning before) in
+    ◌≡◌ {A = (Result AccountHead EngineFault × Lists) × model.Engine}
+    ((answer, lists_after), engine_of meaning after)
+    (handed_back lists.0 lists.1 drawn.0, drawn.1)

@@ -3,5 +3,8 @@ pub mod Naming
 pub mod Legs
 pub mod Chains
 pub mod ChainCalls
+pub mod Commits
 pub mod StepOf
 pub mod Engines
+pub mod LivesOf
+pub mod Performing

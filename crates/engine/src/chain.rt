@@ -1,13 +1,17 @@
 // A chain: its legs by their numbers, and its readings in order.
 ghost use Rattle.std.specs.Option.{option_map, option_copied};
-ghost use Rattle.std.specs.Prelude.{◌≡◌, ◌<◌, length, OnErr, OnSome, nat_lt};
-ghost use Rattle.snapshot.specs.Limits.{chain_readings};
+ghost use Rattle.std.specs.Result.{result_map_both};
+ghost use Rattle.std.specs.Prelude.{◌≡◌, ◌<◌, ◌≤◌, length, map, Ok, OnOk, OnErr, OnSome, nat_lt};
+ghost use Rattle.snapshot.specs.Limits.{chain_readings, legs};
 ghost use Rattle.lives.specs.Engines as model;
 ghost use Rattle.engine_parts.specs.Lists.{entries};
 ghost use Rattle.engine_parts.specs.Caches.{cache_of};
 ghost use Rattle.engine_parts.specs.Caches.{caches_of};
 ghost use Rattle.engine.specs.ChainCalls.{after_hand, after_fork, after_join, after_write, further_reading, after_read};
 ghost use Rattle.engine.specs.Chains.{chain_of};
+ghost use Rattle.engine.specs.Commits.{committing, handed_back};
+ghost use Rattle.lives.specs.Steps.{account_for, only_open};
+ghost use Rattle.snapshot.specs.Overwriting.{overwritten};
 ghost use Rattle.engine.specs.Legs.{open_leg_of, open_in, after_call};
 ghost use Rattle.engine.specs.Workers.{number_of};
 ghost use Rattle.engine.specs.declared.leg.LegCall.TheVariants as call;
@@ -19,7 +23,7 @@ use engine_parts::cache::{CACHES, Cache};
 use engine_parts::list::BoundedList;
 use engine_parts::write_set::WriteSet;
 use lives::records::{CacheEntry, LegAndKey, LegReading};
-use snapshot::account::{ChainReading, Reading, Write};
+use snapshot::account::{AccountHead, ChainReading, Reading, Write};
 use snapshot::fault::{EngineFault, Fault, Refusal};
 use snapshot::interval::Interval;
 use snapshot::limits::{CHAIN_READINGS, LEGS};
@@ -27,6 +31,13 @@ use store::traits::Reads;
 
 // How many legs a chain can have.
 const ALL_LEGS: usize = LEGS as usize;
+
+// How many readings and how many writes there is room for in the lists of a commit's caller.
+#[derive(Clone, Copy)]
+pub(crate) struct Room {
+    pub(crate) readings: usize,
+    pub(crate) writes: usize,
+}
 
 // The legs, how many have been opened, and the readings of all of them.
 #[derive(Clone, Copy)]
@@ -190,6 +201,70 @@ impl Chain {
             }
             Err(fault) => Err(named.refused_by_store(fault)),
         }
+    }
+
+    // The leg that commits: the only one that is open, where there is room for the chain's readings and for the leg's writes.
+    pub(crate) fn committing(&self, named: Named, room: Room) -> Result<OpenLeg, EngineFault>
+        ensures value { result_map_both open_leg_of (λ f. f) result ≡ committing named room.readings room.writes (chain_of self.now) }
+        ensures few { OnOk result (length (chain_of self.now).readings ≤ chain_readings) }
+    {
+        let Some(open) = self.open_leg(named.leg) else {
+            return Err(named.refused(Refusal::NotOpen));
+        };
+        if !self.is_only_open(named.leg) {
+            return Err(named.refused(Refusal::AnotherLegOpen));
+        }
+        if room.readings < self.readings.len() || room.writes < open.writes.as_slice().len() {
+            return Err(named.refused(Refusal::TooShort));
+        }
+        Ok(*open)
+    }
+
+    // Is no leg but this one open?
+    fn is_only_open(&self, leg: u8) -> bool
+        ensures { result ≡ only_open leg (chain_of self.now).legs legs }
+    {
+        let mut only = true;
+        for number in 0..LEGS {
+            only = (number == leg || self.open_leg(number).is_none()) && only;
+        }
+        only
+    }
+
+    // The account of a commit by this leg at this timestamp: fills the starts of two lists with the chain's readings and the
+    // leg's writes, and answers the five numbers.
+    pub(crate) fn account(
+        &self,
+        leg: &OpenLeg,
+        timestamp: u64,
+        readings: &mut [ChainReading],
+        writes: &mut [Write],
+    ) -> AccountHead
+        requires readings_fit { length (chain_of self.now).readings ≤ length readings.old }
+        requires writes_fit { length (open_leg_of leg.now).writes ≤ length writes.old }
+        ensures { (Ok result, (readings.new, writes.new)) ≡ handed_back readings.old writes.old (Ok (account_for (chain_of self.now) (open_leg_of leg.now) timestamp)) }
+    {
+        let written = leg.writes.as_slice();
+        writes[..written.len()].copy_from_slice(written);
+        AccountHead {
+            interval: leg.interval,
+            timestamp,
+            readings: self.fill(readings),
+            writes: written.len(),
+        }
+    }
+
+    // Fills the start of a list with the chain's readings, and answers how many there are.
+    fn fill(&self, list: &mut [ChainReading]) -> usize
+        requires { length (chain_of self.now).readings ≤ length list.old }
+        ensures number { result ≡ length (chain_of self.now).readings }
+        ensures filled { list.new ≡ overwritten (map (λ r. r.made) (chain_of self.now).readings) list.old }
+    {
+        let readings = self.readings.as_slice();
+        for (place, held) in readings.iter().enumerate() {
+            list[place] = held.made;
+        }
+        readings.len()
     }
 
     // Is there room for one more reading?

@@ -1,6 +1,12 @@
 // The engine and its calls. A refused call answers its fault and leaves the engine as it was.
-ghost use Rattle.std.specs.Prelude.{◌≡◌, Ok, OnErr};
-ghost use Rattle.snapshot.specs.Refusals.{own_fault, unnamed};
+ghost use Rattle.std.specs.Prelude.{◌≡◌, ◌≤◌, min, true, [], length, Ok, IfOk, OnErr};
+ghost use Rattle.snapshot.specs.Accounts.{account_of, lawful};
+ghost use Rattle.engine.specs.LivesOf.{InEveryLife, OverNewStore};
+ghost use Rattle.lives.specs.Law.{LedTo};
+ghost use Rattle.lives.specs.Rules.{the_rules};
+ghost use Rattle.snapshot.specs.Limits.{chain_readings, write_keys};
+ghost use Rattle.snapshot.specs.Refusals.{not_named, own_fault, unnamed};
+ghost use Rattle.engine.specs.Naming.{naming};
 ghost use Rattle.snapshot.specs.declared.fault.Layer.TheVariants as layer;
 ghost use Rattle.snapshot.specs.declared.fault.Refusal.TheVariants.{NoSuchNotice};
 ghost use Rattle.lives.specs.Caches.{with_notice};
@@ -8,13 +14,16 @@ ghost use Rattle.lives.specs.Engines as model;
 ghost use Rattle.lives.specs.Updates.{with_at};
 ghost use Rattle.lives.specs.declared.calls.Call.TheVariants as call;
 ghost use Rattle.engine_parts.specs.Caches.{caches_of};
-ghost use Rattle.engine.specs.Engines.{engine_of, IsStep};
+ghost use Rattle.engine.specs.Commits.{handed_over};
+ghost use Rattle.engine_parts.specs.WaitingNotices.{notices_of};
+ghost use Rattle.engine.specs.Engines.{engine_of, IsStep, IsCommit};
 
-use crate::chain::Chain;
+use crate::chain::{Chain, Room};
 use crate::named::Named;
 use engine_parts::cache::{CACHES, Cache};
 use engine_parts::notices::Notices;
 use lives::records::Notice;
+use snapshot::account::{AccountHead, ChainReading, Write};
 use snapshot::fault::{EngineFault, Fault, Layer, Refusal};
 use snapshot::limits::{PLACES, is_leg, is_worker};
 use store::traits::Store;
@@ -32,9 +41,10 @@ pub struct Engine<S> {
 }
 
 impl<S: Store> Engine<S> {
-    // An engine over a store, without chains, entries and notices.
+    // An engine over a store, without chains, entries and notices. Over a new store, a life begins here.
     pub fn new(store: S) -> Engine<S>
-        ensures { engine_of S.Reads.meaning result ≡ model.new_engine (S.Reads.meaning store) }
+        ensures value { engine_of S.Reads.meaning result ≡ model.new_engine (S.Reads.meaning store) }
+        ensures begins { OverNewStore S.Store.depth (S.Reads.meaning store) (λ new. LedTo the_rules new [] (engine_of S.Reads.meaning result)) }
     {
         Engine {
             places: [None; ALL_PLACES],
@@ -150,6 +160,73 @@ impl<S: Store> Engine<S> {
         chain.write(named, value)
     }
 
+    // Commits a chain by its only open leg: the store takes the leg's writes, their notices are raised, and the place is free
+    // again. Without writes the store is not asked, and the clock reading is not looked at. Fills the starts of the two lists
+    // with the chain's readings in order and the writes, and leaves their rest; answers the account's five numbers. In every life
+    // that led to the engine, the book takes the account. Refused: 1 place or leg out of range, 3 that leg is not open, 9 another
+    // leg is open, 10 a list is too short, and by the store 12 the clock reading is too high, 13 no time is left, 14 there is no
+    // room for more versions.
+    pub fn commit(
+        &mut self,
+        place: u8,
+        leg: u8,
+        clock: u64,
+        readings: &mut [ChainReading],
+        writes: &mut [Write],
+    ) -> Result<AccountHead, EngineFault>
+        ensures step { IsCommit S.Reads.meaning S.Store.depth place leg clock (length readings.old) (length writes.old) self.old (readings.old, writes.old) result (readings.new, writes.new) self.new }
+        ensures lawful { IfOk result (λ head. InEveryLife S.Store.depth (engine_of S.Reads.meaning self.old) (λ store life. lawful (account_of head readings.new writes.new) ≡ true)) }
+        ensures unchanged { OnErr result (self.new ≡ self.old) }
+        ensures readings_unchanged { OnErr result (readings.new ≡ readings.old) }
+        ensures writes_unchanged { OnErr result (writes.new ≡ writes.old) }
+    {
+        let room = Room {
+            readings: readings.len(),
+            writes: writes.len(),
+        };
+        self.commit_within(Named::leg(place, leg), clock, room, readings, writes)
+    }
+
+    // Commits into lists that count as so long: they may be shorter only where they have the 32 or the 8 entries beyond which
+    // no account goes.
+    pub(crate) fn commit_within(
+        &mut self,
+        named: Named,
+        clock: u64,
+        room: Room,
+        readings: &mut [ChainReading],
+        writes: &mut [Write],
+    ) -> Result<AccountHead, EngineFault>
+        requires no_key { named ≡ naming named.place named.leg not_named }
+        requires readings_fit { min room.readings chain_readings ≤ length readings.old }
+        requires writes_fit { min room.writes write_keys ≤ length writes.old }
+        ensures step { IsCommit S.Reads.meaning S.Store.depth named.place named.leg clock room.readings room.writes self.old (readings.old, writes.old) result (readings.new, writes.new) self.new }
+        ensures lawful { IfOk result (λ head. InEveryLife S.Store.depth (engine_of S.Reads.meaning self.old) (λ store life. lawful (account_of head readings.new writes.new) ≡ true)) }
+        ensures unchanged { OnErr result (self.new ≡ self.old) }
+        ensures readings_unchanged { OnErr result (readings.new ≡ readings.old) }
+        ensures writes_unchanged { OnErr result (writes.new ≡ writes.old) }
+    {
+        named.check_leg()?;
+        let Some(chain) = &self.places[named.place as usize] else {
+            return Err(named.refused(Refusal::NotOpen));
+        };
+        let last = chain.committing(named, room)?;
+        match hand_over(
+            &mut self.store,
+            &mut self.notices,
+            &self.caches,
+            clock,
+            last.writes.as_slice(),
+        ) {
+            Ok(timestamp) => {
+                let head = chain.account(&last, timestamp, readings, writes);
+                self.places[named.place as usize] = None;
+                Ok(head)
+            }
+            Err(fault) => Err(named.refused_by_store(fault)),
+        }
+    }
+
     // Frees a place. Refused: 1 place out of range, 3 no chain is open there.
     pub fn abandon(&mut self, place: u8) -> Result<(), EngineFault>
         ensures step { IsStep S.Reads.meaning S.Store.depth (call.Abandon place) self.old result self.new }
@@ -203,6 +280,27 @@ impl<S: Store> Engine<S> {
     {
         self.store.prune(horizon);
     }
+}
+
+// The store takes the writes of a commit, and their notices are raised; answers their timestamp. Without writes the store is
+// not asked, and the answer is 0.
+fn hand_over<S: Store>(
+    store: &mut S,
+    notices: &mut Notices,
+    caches: &[Cache; CACHES],
+    clock: u64,
+    writes: &[Write],
+) -> Result<u64, Fault>
+    ensures made { (result, (S.Reads.meaning store.new, notices_of notices.new)) ≡ handed_over S.Store.depth clock writes.now (caches_of caches.now) (S.Reads.meaning store.old, notices_of notices.old) }
+    ensures store_unchanged { OnErr result (store.new ≡ store.old) }
+    ensures unchanged { OnErr result (notices.new ≡ notices.old) }
+{
+    if writes.is_empty() {
+        return Ok(0);
+    }
+    let timestamp = store.commit(clock, writes)?;
+    notices.raise_for(caches, timestamp, writes);
+    Ok(timestamp)
 }
 
 // The cache of a notice's worker takes it. A notice of a worker that is not one of the eight reaches no cache.

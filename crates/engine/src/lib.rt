@@ -1,8 +1,11 @@
 // The engine: open chains with their legs, workers' caches and notices over any store.
 #![tactic(auto)]
 
+pub mod answer;
 mod chain;
 pub mod engine;
 mod leg;
 mod named;
+pub mod perform;
+pub mod run;
 mod worker;

@@ -2,3 +2,4 @@ pub mod Numbers
 pub mod Firsts
 pub mod Risings
 pub mod Agreement
+pub mod Overwritten

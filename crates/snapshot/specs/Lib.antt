@@ -4,3 +4,4 @@ pub mod Intervals
 pub mod Accounts
 pub mod Shown
 pub mod Finding
+pub mod Overwriting

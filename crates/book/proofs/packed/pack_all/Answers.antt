@@ -1,9 +1,9 @@
 -- Each turn writes one record where the records before it end.
 use Rattle.std.proofs.Common.{◌≡◌, ◌*◌, ◌++◌, length, take, sym, ap, ◌∙◌, arith}
 use Rattle.std.specs.List.{flat_map}
-use Rattle.book.specs.Bytes.{overwritten}
+use Rattle.snapshot.specs.Overwriting.{overwritten}
 use Rattle.book.proofs.Packing.{length_joined_front, joined_next}
-use Rattle.book.proofs.Placing.{part_more}
+use Rattle.snapshot.proofs.Overwritten.{part_more}
 use Rattle.book.proofs.packed.pack_all.Goals as goal
 
 pub loop-i-preserved : goal.loop-i-preserved

@@ -1,7 +1,7 @@
 -- The records so far stand at the front of the room.
 use Rattle.std.proofs.Common.{◌≡◌, take}
 use Rattle.std.specs.List.{flat_map}
-use Rattle.book.specs.Bytes.{overwritten}
+use Rattle.snapshot.specs.Overwriting.{overwritten}
 use Rattle.book.proofs.packed.pack_all.Given as goal
 
 abbrev pub invariant-loop-i : goal.invariant-loop-i

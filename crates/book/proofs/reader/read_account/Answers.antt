@@ -1,6 +1,6 @@
 -- The account that is found is what is read, and it stands at that place.
 use Rattle.std.proofs.Common.{◌≡◌, length, Ok, sym, ap, ◌∙◌, arith}
-use Rattle.book.specs.Bytes.{overwritten}
+use Rattle.snapshot.specs.Overwriting.{overwritten}
 use Rattle.book.specs.Calls.{faulted, located, read_at, readings_of, writes_of}
 use Rattle.book.specs.Format.{told}
 use Rattle.book.proofs.Reading.{found_is_read, written_accepted}

@@ -2,7 +2,7 @@
 use Rattle.std.proofs.Common.{◌≡◌, ◌++◌, length, refl, arith}
 use Rattle.std.specs.List.{flat_map}
 use Rattle.book.specs.Format.{reading_bytes, write_bytes, head_bytes, told}
-use Rattle.book.proofs.Placing.{part_more}
+use Rattle.snapshot.proofs.Overwritten.{part_more}
 use Rattle.book.proofs.Records.{length_readings}
 use Rattle.book.proofs.Writing.{last_written}
 use Rattle.book.proofs.lawful.LawfulAccount.put.Goals as goal

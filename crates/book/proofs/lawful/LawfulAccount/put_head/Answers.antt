@@ -1,7 +1,8 @@
 -- Six writes, one after the other.
 use Rattle.std.proofs.Common.{[], ◌∷◌, ◌++◌, length, drop, refl, ap, arith}
 use Rattle.book.specs.Bytes.{big_endian}
-use Rattle.book.proofs.Placing.{number_more, one_more}
+use Rattle.snapshot.proofs.Overwritten.{one_more}
+use Rattle.book.proofs.Placing.{number_more}
 use Rattle.book.proofs.lawful.LawfulAccount.put_head.Goals as goal
 
 pub returns : goal.returns

@@ -1,7 +1,8 @@
 -- Five writes, one after the other.
 use Rattle.std.proofs.Common.{[], ◌∷◌, ◌++◌, refl, arith}
 use Rattle.book.specs.Bytes.{big_endian}
-use Rattle.book.proofs.Placing.{number_more, one_more}
+use Rattle.snapshot.proofs.Overwritten.{one_more}
+use Rattle.book.proofs.Placing.{number_more}
 use Rattle.book.proofs.packed.ChainReadingPacked.pack.Goals as goal
 
 pub returns : goal.returns

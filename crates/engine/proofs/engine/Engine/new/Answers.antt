@@ -1,0 +1,6 @@
+use Rattle.std.proofs.Common.{rules}
+use Rattle.engine.proofs.LifeLemmas.{begins}
+use Rattle.engine.proofs.engine.Engine.new.Goals as goal
+
+pub returns-clause-begins : goal.returns-clause-begins
+returns-clause-begins g c = begins g.S.Store.depth (g.S.Reads.meaning c.args.store) _ (search rules)

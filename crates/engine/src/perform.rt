@@ -1,0 +1,110 @@
+// The twelve calls as one, which takes the call as a value.
+ghost use Rattle.std.specs.Prelude.{◌≡◌, OnErr};
+ghost use Rattle.lives.specs.declared.calls.Call.TheVariants as call;
+ghost use Rattle.engine.specs.Engines.{engine_of, IsStep};
+ghost use Rattle.engine.specs.LivesOf.{GoesOn, InEveryLife};
+ghost use Rattle.engine.specs.Performing.{performed};
+
+use crate::answer::{Answer, Committed};
+use crate::chain::Room;
+use crate::engine::Engine;
+use crate::named::Named;
+use lives::calls::Call;
+use snapshot::account::{NO_READING, NO_WRITE};
+use snapshot::fault::EngineFault;
+use snapshot::limits::{CHAIN_READINGS, WRITE_KEYS};
+use store::traits::Store;
+
+impl<S: Store> Engine<S> {
+    // Makes the call. Refused as the call of that name is. Every life that led to the engine goes on by this call and its
+    // answer, and keeps the law of lives.
+    pub fn perform(&mut self, call: Call) -> Result<Answer, EngineFault>
+        ensures step { (result, engine_of S.Reads.meaning self.new) ≡ performed S.Store.depth call (engine_of S.Reads.meaning self.old) }
+        ensures unchanged { OnErr result (self.new ≡ self.old) }
+        ensures law { InEveryLife S.Store.depth (engine_of S.Reads.meaning self.old) (λ store life. GoesOn store life call result (engine_of S.Reads.meaning self.new)) }
+    {
+        self.dispatch(call)
+    }
+
+    // Makes the call of that name.
+    fn dispatch(&mut self, call: Call) -> Result<Answer, EngineFault>
+        ensures step { (result, engine_of S.Reads.meaning self.new) ≡ performed S.Store.depth call (engine_of S.Reads.meaning self.old) }
+        ensures unchanged { OnErr result (self.new ≡ self.old) }
+    {
+        match call {
+            Call::Begin { place, worker } => self.begin(place, worker).map(Answer::Leg),
+            Call::Hand { place, leg, worker } => self.hand(place, leg, worker).map(Answer::Leg),
+            Call::Fork {
+                place,
+                leg,
+                first_worker,
+                second_worker,
+            } => {
+                let (first, second) = self.fork(place, leg, first_worker, second_worker)?;
+                Ok(Answer::Legs(first, second))
+            }
+            Call::Join {
+                place,
+                first_leg,
+                second_leg,
+                worker,
+            } => self
+                .join(place, first_leg, second_leg, worker)
+                .map(Answer::Leg),
+            Call::Read { place, leg, key } => self.read(place, leg, key).map(Answer::Value),
+            Call::Write {
+                place,
+                leg,
+                key,
+                value,
+            } => self.write(place, leg, key, value).and(Ok(Answer::Done)),
+            Call::Commit {
+                place,
+                leg,
+                clock,
+                readings_room,
+                writes_room,
+            } => self
+                .commit_with_room(place, leg, clock, readings_room, writes_room)
+                .map(Answer::Account),
+            Call::Abandon { place } => self.abandon(place).and(Ok(Answer::Done)),
+            Call::Deliver { position } => self.deliver(position).and(Ok(Answer::Done)),
+            Call::Discard { position } => self.discard(position).and(Ok(Answer::Done)),
+            Call::Count => {
+                let (waiting, lost) = self.count();
+                Ok(Answer::Count(waiting, lost))
+            }
+            Call::Prune { horizon } => {
+                self.prune(horizon);
+                Ok(Answer::Done)
+            }
+        }
+    }
+
+    // Commits as into lists of these lengths, into the account's own memory.
+    fn commit_with_room(
+        &mut self,
+        place: u8,
+        leg: u8,
+        clock: u64,
+        readings_room: usize,
+        writes_room: usize,
+    ) -> Result<Committed, EngineFault>
+        ensures step { IsStep S.Reads.meaning S.Store.depth (call.Commit place leg clock readings_room writes_room) self.old result self.new }
+        ensures unchanged { OnErr result (self.new ≡ self.old) }
+    {
+        let mut readings = [NO_READING; CHAIN_READINGS];
+        let mut writes = [NO_WRITE; WRITE_KEYS];
+        let room = Room {
+            readings: readings_room,
+            writes: writes_room,
+        };
+        let named = Named::leg(place, leg);
+        let head = self.commit_within(named, clock, room, &mut readings, &mut writes)?;
+        Ok(Committed {
+            head,
+            readings,
+            writes,
+        })
+    }
+}
