@@ -1,19 +1,22 @@
 -- What a commit leaves: its caller's lists, the engine, and that the book takes the account.
-use Rattle.std.proofs.Common.{◌≡◌, ℕ, ◌+◌, ◌<◌, ◌≤◌, true, ◌&&◌, List, [], ◌∷◌, ◌++◌, length, take, set, get_or, Some, None, Ok, Err, Option, Result, refl, sym, ap, subst, Bool, false, if◌then◌else◌, nat_le, ◌∙◌, arith}
+use Rattle.std.proofs.Common.{◌≡◌, ℕ, ◌+◌, ◌<◌, ◌≤◌, true, ◌&&◌, List, [], ◌∷◌, ◌++◌, length, take, set, get_or, IfOk, Some, None, Ok, Err, Option, Result, refl, sym, ap, subst, Bool, false, if◌then◌else◌, nat_le, ◌∙◌, arith}
 use Rattle.std.specs.Option.{option_map}
+use Rattle.std.specs.Result.{result_map_both}
 use Rattle.std.proofs.lemmas.List.{take_more, take_at, length-take-le, set-get_or}
 use Rattle.snapshot.specs.Accounts.{Account, head_of, account_of, lawful}
-use Rattle.snapshot.specs.Limits.{legs, is_place, is_leg}
+use Rattle.snapshot.specs.Limits.{legs}
 use Rattle.snapshot.specs.Overwriting.{overwritten}
 use Rattle.snapshot.specs.Refusals.{not_named}
 use Rattle.snapshot.specs.declared.account.AccountHead.{AccountHead}
 use Rattle.snapshot.specs.declared.account.ChainReading.{ChainReading}
 use Rattle.snapshot.specs.declared.account.Write.{Write}
 use Rattle.snapshot.specs.declared.fault.EngineFault.{EngineFault}
+use Rattle.snapshot.specs.declared.fault.Fault.{Fault}
 use Rattle.snapshot.specs.declared.fault.Refusal.TheVariants.{NotOpen, AnotherLegOpen, TooShort}
 use Rattle.snapshot.proofs.Overwritten.{one_more}
 use Rattle.store.specs.Meaning.{Meaning}
 use Rattle.engine_parts.specs.WaitingNotices.{notices_of}
+use Rattle.engine_parts.specs.WriteSets.{writes_of}
 use Rattle.engine_parts.specs.declared.notices.Notices.{Notices}
 use Rattle.engine_parts.proofs.ItemLemmas.{item_set}
 use Rattle.lives.specs.Engines as model
@@ -26,12 +29,16 @@ use Rattle.engine.specs.ChainCalls.{on_open}
 use Rattle.engine.specs.Chains.{chain_of}
 use Rattle.engine.specs.Commits.{committing, handed_back, handed_over}
 use Rattle.engine.specs.Engines.{Lists, engine_of}
+use Rattle.engine.specs.Legs.{open_leg_of}
 use Rattle.engine.specs.LivesOf.{InEveryLife}
-use Rattle.engine.specs.Naming.{naming}
+use Rattle.engine.specs.Naming.{naming, leg_in_range}
 use Rattle.engine.specs.StepOf.{step_of}
+use Rattle.engine.specs.declared.chain.Chain.{Chain}
 use Rattle.engine.specs.declared.engine.Engine.{Engine}
+use Rattle.engine.specs.declared.leg.OpenLeg.{OpenLeg}
 use Rattle.engine.specs.declared.named.Named.{Named}
 use Rattle.engine.proofs.ChainSteps.{WithEngine}
+use Rattle.engine.proofs.EngineLemmas.{stands}
 use Rattle.engine.proofs.CommitStep.{HandedOver, commit_is_step, commit_made, handed_in}
 
 -- The lists.
@@ -88,50 +95,61 @@ module _ {S : Type 0} (meaning : S → Meaning) (e : Engine S) (p : ℕ) (within
 
 -- The step.
 
+not_both : {X : Type 0} (h : AccountHead) (f : EngineFault) → ◌≡◌ {A = Result AccountHead EngineFault} (Ok h) (Err f) → X
+not_both h f e = absurd cc
+
 module _ (depth p l clock r w : ℕ) (rs : List ChainReading) (ws : List Write) (s : model.Engine) where
   abbrev pub drawn : WithEngine Account
   drawn = step_of depth (call.Commit p l clock r w) s
 
+  -- a commit's answer, its caller's lists and an engine are those that the rules draw
   abbrev pub Handed : Result AccountHead EngineFault → Lists → model.Engine → Type 0
   Handed q lists t =
       ◌≡◌ {A = (Result AccountHead EngineFault × Lists) × model.Engine} ((q, lists), t) (handed_back rs ws drawn.0, drawn.1)
 
-  -- a refused one
-  pub commit_refused :
-      (t : model.Engine) (q : Result AccountHead EngineFault) (f : EngineFault) → q ≡ Err f →
-      ◌≡◌ {A = WithEngine Account} (Err f, t) drawn → Handed q (rs, ws) t
-  commit_refused t q f is same =
-      let P : Result AccountHead EngineFault → (Result AccountHead EngineFault × Lists) × model.Engine = λ x. ((x, (rs, ws)), t) in
-      let B : WithEngine Account → (Result AccountHead EngineFault × Lists) × model.Engine = λ d. (handed_back rs ws d.0, d.1) in
-      ap P is ∙ ap B same
+  abbrev drawn_back : WithEngine Account → (Result AccountHead EngineFault × Lists) × model.Engine
+  drawn_back d = (handed_back rs ws d.0, d.1)
 
-  -- an accepted one
+  -- of a refused commit
+  pub commit_refused :
+      (t t' : model.Engine) (q : Result AccountHead EngineFault) (f f' : EngineFault) → t ≡ t' → q ≡ Err f → f ≡ f' →
+      ◌≡◌ {A = WithEngine Account} (Err f', t') drawn → Handed q (rs, ws) t
+  commit_refused t t' q f f' left is same drawn_so =
+      let P : Result AccountHead EngineFault → (Result AccountHead EngineFault × Lists) × model.Engine = λ x. ((x, (rs, ws)), t) in
+      let Q : model.Engine → (Result AccountHead EngineFault × Lists) × model.Engine = λ u. ((Err f', (rs, ws)), u) in
+      ap P (is ∙ ap Err same) ∙ ap Q left ∙ ap drawn_back drawn_so
+
+  -- of an accepted one
   pub commit_accepted :
       (t t' : model.Engine) (q : Result AccountHead EngineFault) (lists : Lists) (a : Account) → t ≡ t' →
       (q, lists) ≡ handed_back rs ws (Ok a) → ◌≡◌ {A = WithEngine Account} (Ok a, t') drawn → Handed q lists t
-  commit_accepted t t' q lists a left is same =
+  commit_accepted t t' q lists a left is drawn_so =
       let P : Result AccountHead EngineFault × Lists → (Result AccountHead EngineFault × Lists) × model.Engine = λ x. (x, t) in
       let Q : model.Engine → (Result AccountHead EngineFault × Lists) × model.Engine = λ u. (handed_back rs ws (Ok a), u) in
-      let B : WithEngine Account → (Result AccountHead EngineFault × Lists) × model.Engine = λ d. (handed_back rs ws d.0, d.1) in
-      ap P is ∙ ap Q left ∙ ap B same
+      ap P is ∙ ap Q left ∙ ap drawn_back drawn_so
 
-  module _ (c : model.Chain) (range : (is_place p && is_leg l) ≡ true) (here : s.places p ≡ Some c) where
-    -- no leg commits
-    pub none_commits :
-        (f : EngineFault) → committing (naming p l not_named) r w c ≡ Err f →
-        ◌≡◌ {A = WithEngine Account} (Err f, s) drawn
-    none_commits f is =
-        ap (commit_made depth p l clock c s) (sym is) ∙ commit_is_step depth p l clock r w s c range here
+  -- The book takes the account, in every life that led to the engine.
 
-    -- the leg that commits, and what the store and the notices became
-    module _ (o : model.OpenLeg) (commits : committing (naming p l not_named) r w c ≡ Ok o) where
-      pub one_commits :
-          (after : HandedOver) → after ≡ handed_over depth clock o.writes s.caches (s.store, s.notices) →
-          handed_in p l c o s after ≡ drawn
-      one_commits after is =
-          ap (handed_in p l c o s) is
-          ∙ ap (commit_made depth p l clock c s) (sym commits)
-          ∙ commit_is_step depth p l clock r w s c range here
+  account_lawful : (a : Account) → drawn.0 ≡ Ok a → InEveryLife depth s (λ store life. lawful a ≡ true)
+  account_lawful a is store life of_depth led =
+      let c = call.Commit p l clock r w in
+      let answer : answer_in (step the_rules store.depth c s) ≡ Ok a = ap (λ d. answer_in (step the_rules d c s)) of_depth ∙ is in
+      ((the_rules_lawful.one_more_call store life s c led).commits.0 p l clock r w a (ap (event c) answer)).for_the_book
+
+  abbrev IsLawful : Lists → AccountHead → Type 0
+  IsLawful lists h = InEveryLife depth s (λ store life. lawful (account_of h lists.0 lists.1) ≡ true)
+
+  handed_lawful :
+      (q : Result AccountHead EngineFault) (lists : Lists) (d : Result Account EngineFault) → (q, lists) ≡ handed_back rs ws d →
+      drawn.0 ≡ d → IfOk q (IsLawful lists)
+  handed_lawful (Ok h) lists (Ok a) is same =
+      λ store life of_depth led. ap lawful (handed_back_tells rs ws a h lists is) ∙ account_lawful a same store life of_depth led
+  handed_lawful (Ok h) lists (Err f) is same = not_both h f (ap (λ t. t.0) is)
+  handed_lawful (Err f) lists d is same = tt
+
+  pub for_the_book :
+      (q : Result AccountHead EngineFault) (lists : Lists) (t : model.Engine) → Handed q lists t → IfOk q (IsLawful lists)
+  for_the_book q lists t handed = handed_lawful q lists drawn.0 (ap (λ x. x.0) handed) refl
 
 -- The leg that commits.
 
@@ -162,13 +180,50 @@ pub has_room :
     (nat_le (length c.readings) r && nat_le (length o.writes) w) ≡ true
 has_room n r w c o e = there_is_room n r w c (c.legs n.leg) o e
 
--- The book.
+-- What is known of a call that found the chain at its place.
+module _ {S : Type 0} (meaning : S → Meaning) (depth : ℕ) (e : Engine S) (n : Named) (clock r w : ℕ) (chain : Chain)
+    (no_key : n ≡ naming n.place n.leg not_named) (range : leg_in_range n ≡ true) (within : n.place < length e.places)
+    (here : get_or e.places n.place None ≡ Some chain) where
+  abbrev before : model.Engine
+  before = engine_of meaning e
 
--- in every life that led to the engine, the book takes the account of a commit
-pub for_the_book :
-    (depth p l clock r w : ℕ) (s : model.Engine) (a : Account) → (step_of depth (call.Commit p l clock r w) s).0 ≡ Ok a →
-    InEveryLife depth s (λ store life. lawful a ≡ true)
-for_the_book depth p l clock r w s a is store life of_depth led =
-    let c = call.Commit p l clock r w in
-    let answer : answer_in (step the_rules store.depth c s) ≡ Ok a = ap (λ d. answer_in (step the_rules d c s)) of_depth ∙ is in
-    ((the_rules_lawful.one_more_call store life s c led).commits.0 p l clock r w a (ap (event c) answer)).for_the_book
+  abbrev of_call : WithEngine Account
+  of_call = step_of depth (call.Commit n.place n.leg clock r w) before
+
+  decided :
+      commit_made depth n.place n.leg clock (chain_of chain) before (committing (naming n.place n.leg not_named) r w (chain_of chain))
+      ≡ of_call
+  decided = commit_is_step depth n.place n.leg clock r w before (chain_of chain) range (stands meaning e n.place within (Some chain) here)
+
+  -- which leg commits, if one does
+  found :
+      (q : Result OpenLeg EngineFault) (leg : Result model.OpenLeg EngineFault) →
+      result_map_both open_leg_of (λ f. f) q ≡ committing n r w (chain_of chain) → result_map_both open_leg_of (λ f. f) q ≡ leg →
+      leg ≡ committing (naming n.place n.leg not_named) r w (chain_of chain)
+  found q leg ensured known = sym known ∙ ensured ∙ ap (λ m. committing m r w (chain_of chain)) no_key
+
+  -- none does
+  pub none_commits :
+      (q : Result OpenLeg EngineFault) (f : EngineFault) →
+      result_map_both open_leg_of (λ f. f) q ≡ committing n r w (chain_of chain) → q ≡ Err f →
+      ◌≡◌ {A = WithEngine Account} (Err f, before) of_call
+  none_commits q f ensured is =
+      ap (commit_made depth n.place n.leg clock (chain_of chain) before)
+      (found q (Err f) ensured (ap (result_map_both open_leg_of (λ f. f)) is))
+      ∙ decided
+
+  -- one does, and the store answers this
+  pub one_commits :
+      (q : Result OpenLeg EngineFault) (last : OpenLeg) →
+      result_map_both open_leg_of (λ f. f) q ≡ committing n r w (chain_of chain) → q ≡ Ok last → (written : List Write) →
+      written ≡ writes_of last.writes → (answer known : Result ℕ Fault) (store : Meaning) (notices : model.Notices) →
+      (answer, (store, notices)) ≡ handed_over depth clock written before.caches (before.store, before.notices) → answer ≡ known →
+      handed_in n.place n.leg (chain_of chain) (open_leg_of last) before (known, (store, notices)) ≡ of_call
+  one_commits q last ensured is written are answer known store notices handed is_known =
+      let In : HandedOver → WithEngine Account = handed_in n.place n.leg (chain_of chain) (open_leg_of last) before in
+      let With : Result ℕ Fault → HandedOver = λ x. (x, (store, notices)) in
+      ap In
+      (ap With (sym is_known) ∙ handed ∙ ap (λ xs. handed_over depth clock xs before.caches (before.store, before.notices)) are)
+      ∙ ap (commit_made depth n.place n.leg clock (chain_of chain) before)
+      (found q (Ok (open_leg_of last)) ensured (ap (result_map_both open_leg_of (λ f. f)) is))
+      ∙ decided

@@ -201,7 +201,6 @@ impl<S: Store> Engine<S> {
         requires readings_fit { min room.readings chain_readings ≤ length readings.old }
         requires writes_fit { min room.writes write_keys ≤ length writes.old }
         ensures step { IsCommit S.Reads.meaning S.Store.depth named.place named.leg clock room.readings room.writes self.old (readings.old, writes.old) result (readings.new, writes.new) self.new }
-        ensures lawful { IfOk result (λ head. InEveryLife S.Store.depth (engine_of S.Reads.meaning self.old) (λ store life. lawful (account_of head readings.new writes.new) ≡ true)) }
         ensures unchanged { OnErr result (self.new ≡ self.old) }
         ensures readings_unchanged { OnErr result (readings.new ≡ readings.old) }
         ensures writes_unchanged { OnErr result (writes.new ≡ writes.old) }
