@@ -5,8 +5,7 @@ ghost use Rattle.std.specs.Prelude.{◌≡◌, ◌<◌, ◌≤◌, length, map, 
 ghost use Rattle.snapshot.specs.Limits.{chain_readings, legs};
 ghost use Rattle.lives.specs.Engines as model;
 ghost use Rattle.engine_parts.specs.Lists.{entries};
-ghost use Rattle.engine_parts.specs.Caches.{cache_of};
-ghost use Rattle.engine_parts.specs.Caches.{caches_of};
+ghost use Rattle.engine_parts.specs.Caches.{cache_of, caches_of};
 ghost use Rattle.engine.specs.ChainCalls.{after_hand, after_fork, after_join, after_write, further_reading, after_read};
 ghost use Rattle.engine.specs.Chains.{chain_of};
 ghost use Rattle.engine.specs.Commits.{committing, handed_back};

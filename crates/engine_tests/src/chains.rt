@@ -1,13 +1,13 @@
 // Chains over both stores: how legs are numbered, which writes a leg has, what it reads, and what other chains see of it.
-use crate::steps::Call::{Abandon, Begin, Count, Fork, Hand, Join, Prune, Read, Write};
-use crate::steps::Seen::{Done, Leg, Legs, Notices, Value};
-use crate::steps::{
-    answers, fill, hand_up_to, over_newest, reads_filled, refused, refused_leg, refused_place,
-    writes_keys,
+use crate::seen::Seen::{Done, Leg, Legs, Notices, Value};
+use crate::seen::{
+    abandon, begin, fork, hand, join, prune, read, refused, refused_leg, refused_place, write,
 };
+use crate::steps::{answers, fill, hand_up_to, over_newest, reads_filled, writes_keys};
 use engine::engine::Engine;
+use lives::calls::Call::Count;
 use newest_store::newest::Newest;
-use snapshot::account::Write as StoreWrite;
+use snapshot::account::Write;
 use snapshot::fault::Refusal::{NotOpen, PlaceOccupied, ReadingsFull, TooManyLegs, WriteSetFull};
 use std::process::Abort;
 use store::traits::Store;
@@ -22,16 +22,16 @@ fn legs_are_numbered_up_to_15_and_each_has_the_writes_of_those_before(rt: HostRu
     answers(
         &rt,
         &mut engine,
-        &[(Begin(0, 7), Leg(0)), (Write(0, 0, 5, 50), Done)],
+        &[(begin(0, 7), Leg(0)), (write(0, 0, 5, 50), Done)],
     );
     for leg in 0..15 {
         answers(
             &rt,
             &mut engine,
             &[
-                (Hand(0, leg, leg % 8), Leg(leg + 1)),
-                (Read(0, leg, 5), refused(NotOpen, 0, leg, 5)),
-                (Read(0, leg + 1, 5), Value(50)),
+                (hand(0, leg, leg % 8), Leg(leg + 1)),
+                (read(0, leg, 5), refused(NotOpen, 0, leg, 5)),
+                (read(0, leg + 1, 5), Value(50)),
             ],
         );
     }
@@ -39,9 +39,9 @@ fn legs_are_numbered_up_to_15_and_each_has_the_writes_of_those_before(rt: HostRu
         &rt,
         &mut engine,
         &[
-            (Hand(0, 15, 0), refused_leg(TooManyLegs, 0, 15)),
-            (Write(0, 15, 5, 51), Done),
-            (Read(0, 15, 5), Value(51)),
+            (hand(0, 15, 0), refused_leg(TooManyLegs, 0, 15)),
+            (write(0, 15, 5, 51), Done),
+            (read(0, 15, 5), Value(51)),
         ],
     );
 }
@@ -54,10 +54,10 @@ fn fork_of_leg_13_gives_legs_14_and_15(rt: HostRuntime) {
         &rt,
         &mut engine,
         &[
-            (Fork(0, 13, 1, 2), Legs(14, 15)),
-            (Read(0, 14, 1), Value(101)),
-            (Read(0, 15, 1), Value(101)),
-            (Read(0, 13, 1), refused(NotOpen, 0, 13, 1)),
+            (fork(0, 13, 1, 2), Legs(14, 15)),
+            (read(0, 14, 1), Value(101)),
+            (read(0, 15, 1), Value(101)),
+            (read(0, 13, 1), refused(NotOpen, 0, 13, 1)),
         ],
     );
 }
@@ -70,14 +70,14 @@ fn join_of_legs_13_and_14_gives_leg_15(rt: HostRuntime) {
         &rt,
         &mut engine,
         &[
-            (Fork(0, 12, 1, 2), Legs(13, 14)),
-            (Write(0, 13, 5, 50), Done),
-            (Write(0, 14, 6, 60), Done),
-            (Join(0, 13, 14, 3), Leg(15)),
-            (Read(0, 15, 5), Value(50)),
-            (Read(0, 15, 6), Value(60)),
-            (Read(0, 13, 5), refused(NotOpen, 0, 13, 5)),
-            (Read(0, 14, 6), refused(NotOpen, 0, 14, 6)),
+            (fork(0, 12, 1, 2), Legs(13, 14)),
+            (write(0, 13, 5, 50), Done),
+            (write(0, 14, 6, 60), Done),
+            (join(0, 13, 14, 3), Leg(15)),
+            (read(0, 15, 5), Value(50)),
+            (read(0, 15, 6), Value(60)),
+            (read(0, 13, 5), refused(NotOpen, 0, 13, 5)),
+            (read(0, 14, 6), refused(NotOpen, 0, 14, 6)),
         ],
     );
 }
@@ -88,13 +88,13 @@ fn numbers_rise_in_the_order_of_opening_over_hands_forks_and_joins(rt: HostRunti
         &rt,
         &mut over_newest(&rt),
         &[
-            (Begin(2, 0), Leg(0)),
-            (Fork(2, 0, 1, 2), Legs(1, 2)),
-            (Hand(2, 2, 3), Leg(3)),
-            (Fork(2, 1, 4, 4), Legs(4, 5)),
-            (Join(2, 5, 3, 6), Leg(6)),
-            (Join(2, 6, 4, 7), Leg(7)),
-            (Hand(2, 7, 0), Leg(8)),
+            (begin(2, 0), Leg(0)),
+            (fork(2, 0, 1, 2), Legs(1, 2)),
+            (hand(2, 2, 3), Leg(3)),
+            (fork(2, 1, 4, 4), Legs(4, 5)),
+            (join(2, 5, 3, 6), Leg(6)),
+            (join(2, 6, 4, 7), Leg(7)),
+            (hand(2, 7, 0), Leg(8)),
         ],
     );
 }
@@ -105,17 +105,17 @@ fn both_legs_of_a_fork_have_the_writes_and_then_write_apart(rt: HostRuntime) {
         &rt,
         &mut over_newest(&rt),
         &[
-            (Begin(0, 0), Leg(0)),
-            (Write(0, 0, 5, 50), Done),
-            (Fork(0, 0, 1, 2), Legs(1, 2)),
-            (Read(0, 1, 5), Value(50)),
-            (Read(0, 2, 5), Value(50)),
-            (Write(0, 1, 5, 51), Done),
-            (Write(0, 2, 6, 62), Done),
-            (Read(0, 1, 5), Value(51)),
-            (Read(0, 1, 6), Value(106)),
-            (Read(0, 2, 5), Value(50)),
-            (Read(0, 2, 6), Value(62)),
+            (begin(0, 0), Leg(0)),
+            (write(0, 0, 5, 50), Done),
+            (fork(0, 0, 1, 2), Legs(1, 2)),
+            (read(0, 1, 5), Value(50)),
+            (read(0, 2, 5), Value(50)),
+            (write(0, 1, 5, 51), Done),
+            (write(0, 2, 6, 62), Done),
+            (read(0, 1, 5), Value(51)),
+            (read(0, 1, 6), Value(106)),
+            (read(0, 2, 5), Value(50)),
+            (read(0, 2, 6), Value(62)),
         ],
     );
 }
@@ -129,10 +129,10 @@ fn joined_leg_has_the_writes_of_both_and_of_a_key_in_both_the_second_ones(rt: Ho
         &rt,
         &mut engine,
         &[
-            (Begin(0, 0), Leg(0)),
-            (Begin(1, 0), Leg(0)),
-            (Fork(0, 0, 1, 2), Legs(1, 2)),
-            (Fork(1, 0, 1, 2), Legs(1, 2)),
+            (begin(0, 0), Leg(0)),
+            (begin(1, 0), Leg(0)),
+            (fork(0, 0, 1, 2), Legs(1, 2)),
+            (fork(1, 0, 1, 2), Legs(1, 2)),
         ],
     );
     for place in 0..2 {
@@ -143,22 +143,22 @@ fn joined_leg_has_the_writes_of_both_and_of_a_key_in_both_the_second_ones(rt: Ho
         &rt,
         &mut engine,
         &[
-            (Join(0, 1, 2, 3), Leg(3)),
-            (Read(0, 3, 0), Value(600)),
-            (Read(0, 3, 5), Value(505)),
-            (Read(0, 3, 20), Value(620)),
-            (Read(0, 3, 30), Value(630)),
-            (Read(0, 3, 63), Value(663)),
-            (Read(0, 3, 6), Value(106)),
-            (Join(1, 2, 1, 3), Leg(3)),
-            (Read(1, 3, 0), Value(600)),
-            (Read(1, 3, 5), Value(505)),
-            (Read(1, 3, 20), Value(520)),
-            (Read(1, 3, 30), Value(630)),
-            (Read(1, 3, 63), Value(563)),
-            (Write(1, 3, 20, 1), Done),
-            (Read(1, 3, 20), Value(1)),
-            (Read(0, 3, 20), Value(620)),
+            (join(0, 1, 2, 3), Leg(3)),
+            (read(0, 3, 0), Value(600)),
+            (read(0, 3, 5), Value(505)),
+            (read(0, 3, 20), Value(620)),
+            (read(0, 3, 30), Value(630)),
+            (read(0, 3, 63), Value(663)),
+            (read(0, 3, 6), Value(106)),
+            (join(1, 2, 1, 3), Leg(3)),
+            (read(1, 3, 0), Value(600)),
+            (read(1, 3, 5), Value(505)),
+            (read(1, 3, 20), Value(520)),
+            (read(1, 3, 30), Value(630)),
+            (read(1, 3, 63), Value(563)),
+            (write(1, 3, 20, 1), Done),
+            (read(1, 3, 20), Value(1)),
+            (read(0, 3, 20), Value(620)),
         ],
     );
 }
@@ -169,14 +169,14 @@ fn second_leg_that_only_took_over_a_write_still_gives_its_value_to_the_joined_le
         &rt,
         &mut over_newest(&rt),
         &[
-            (Begin(0, 0), Leg(0)),
-            (Write(0, 0, 5, 50), Done),
-            (Fork(0, 0, 1, 2), Legs(1, 2)),
-            (Write(0, 1, 5, 51), Done),
-            (Join(0, 1, 2, 0), Leg(3)),
-            (Read(0, 3, 5), Value(50)),
-            (Read(0, 1, 5), refused(NotOpen, 0, 1, 5)),
-            (Read(0, 2, 5), refused(NotOpen, 0, 2, 5)),
+            (begin(0, 0), Leg(0)),
+            (write(0, 0, 5, 50), Done),
+            (fork(0, 0, 1, 2), Legs(1, 2)),
+            (write(0, 1, 5, 51), Done),
+            (join(0, 1, 2, 0), Leg(3)),
+            (read(0, 3, 5), Value(50)),
+            (read(0, 1, 5), refused(NotOpen, 0, 1, 5)),
+            (read(0, 2, 5), refused(NotOpen, 0, 2, 5)),
         ],
     );
 }
@@ -188,22 +188,22 @@ fn join_of_two_legs_with_the_same_eight_keys_has_eight(rt: HostRuntime) {
     answers(
         &rt,
         &mut engine,
-        &[(Begin(0, 0), Leg(0)), (Fork(0, 0, 1, 2), Legs(1, 2))],
+        &[(begin(0, 0), Leg(0)), (fork(0, 0, 1, 2), Legs(1, 2))],
     );
     writes_keys(&rt, &mut engine, 0, 1, 500, &keys);
     writes_keys(&rt, &mut engine, 0, 2, 600, &keys);
-    answers(&rt, &mut engine, &[(Join(0, 1, 2, 3), Leg(3))]);
+    answers(&rt, &mut engine, &[(join(0, 1, 2, 3), Leg(3))]);
     for key in keys {
         answers(
             &rt,
             &mut engine,
-            &[(Read(0, 3, key), Value(600 + u32::from(key)))],
+            &[(read(0, 3, key), Value(600 + u32::from(key)))],
         );
     }
     answers(
         &rt,
         &mut engine,
-        &[(Write(0, 3, 1, 1), refused(WriteSetFull, 0, 3, 1))],
+        &[(write(0, 3, 1, 1), refused(WriteSetFull, 0, 3, 1))],
     );
 }
 
@@ -215,15 +215,15 @@ fn own_write_is_read_back_before_and_after_a_reading_of_the_key(rt: HostRuntime)
         &rt,
         &mut over_newest(&rt),
         &[
-            (Begin(0, 0), Leg(0)),
-            (Write(0, 0, 5, 50), Done),
-            (Read(0, 0, 5), Value(50)),
-            (Read(0, 0, 6), Value(106)),
-            (Write(0, 0, 6, 60), Done),
-            (Read(0, 0, 6), Value(60)),
-            (Write(0, 0, 6, 61), Done),
-            (Read(0, 0, 6), Value(61)),
-            (Read(0, 0, 5), Value(50)),
+            (begin(0, 0), Leg(0)),
+            (write(0, 0, 5, 50), Done),
+            (read(0, 0, 5), Value(50)),
+            (read(0, 0, 6), Value(106)),
+            (write(0, 0, 6, 60), Done),
+            (read(0, 0, 6), Value(60)),
+            (write(0, 0, 6, 61), Done),
+            (read(0, 0, 6), Value(61)),
+            (read(0, 0, 5), Value(50)),
         ],
     );
 }
@@ -234,19 +234,19 @@ fn key_read_again_has_the_same_value_on_the_leg_and_on_later_ones(rt: HostRuntim
         &rt,
         &mut over_newest(&rt),
         &[
-            (Begin(0, 0), Leg(0)),
-            (Read(0, 0, 63), Value(163)),
-            (Read(0, 0, 0), Value(100)),
-            (Read(0, 0, 63), Value(163)),
-            (Hand(0, 0, 0), Leg(1)),
-            (Read(0, 1, 63), Value(163)),
-            (Read(0, 1, 0), Value(100)),
-            (Fork(0, 1, 1, 2), Legs(2, 3)),
-            (Read(0, 2, 63), Value(163)),
-            (Read(0, 3, 0), Value(100)),
-            (Join(0, 2, 3, 4), Leg(4)),
-            (Read(0, 4, 63), Value(163)),
-            (Read(0, 4, 0), Value(100)),
+            (begin(0, 0), Leg(0)),
+            (read(0, 0, 63), Value(163)),
+            (read(0, 0, 0), Value(100)),
+            (read(0, 0, 63), Value(163)),
+            (hand(0, 0, 0), Leg(1)),
+            (read(0, 1, 63), Value(163)),
+            (read(0, 1, 0), Value(100)),
+            (fork(0, 1, 1, 2), Legs(2, 3)),
+            (read(0, 2, 63), Value(163)),
+            (read(0, 3, 0), Value(100)),
+            (join(0, 2, 3, 4), Leg(4)),
+            (read(0, 4, 63), Value(163)),
+            (read(0, 4, 0), Value(100)),
         ],
     );
 }
@@ -257,26 +257,26 @@ fn readings_of_all_legs_count_together_and_each_leg_makes_its_own(rt: HostRuntim
     answers(
         &rt,
         &mut engine,
-        &[(Begin(0, 0), Leg(0)), (Begin(1, 0), Leg(0))],
+        &[(begin(0, 0), Leg(0)), (begin(1, 0), Leg(0))],
     );
     reads_filled(&rt, &mut engine, 0, 0, 0..16);
     reads_filled(&rt, &mut engine, 0, 0, 0..16);
-    answers(&rt, &mut engine, &[(Fork(0, 0, 0, 1), Legs(1, 2))]);
+    answers(&rt, &mut engine, &[(fork(0, 0, 0, 1), Legs(1, 2))]);
     reads_filled(&rt, &mut engine, 0, 1, 0..8);
     reads_filled(&rt, &mut engine, 0, 2, 0..7);
     answers(
         &rt,
         &mut engine,
         &[
-            (Read(0, 2, 63), Value(163)),
-            (Read(0, 1, 8), refused(ReadingsFull, 0, 1, 8)),
-            (Read(0, 2, 7), refused(ReadingsFull, 0, 2, 7)),
-            (Read(0, 1, 7), Value(107)),
-            (Read(0, 2, 63), Value(163)),
-            (Join(0, 1, 2, 0), Leg(3)),
-            (Read(0, 3, 7), refused(ReadingsFull, 0, 3, 7)),
-            (Write(0, 3, 7, 70), Done),
-            (Read(0, 3, 7), Value(70)),
+            (read(0, 2, 63), Value(163)),
+            (read(0, 1, 8), refused(ReadingsFull, 0, 1, 8)),
+            (read(0, 2, 7), refused(ReadingsFull, 0, 2, 7)),
+            (read(0, 1, 7), Value(107)),
+            (read(0, 2, 63), Value(163)),
+            (join(0, 1, 2, 0), Leg(3)),
+            (read(0, 3, 7), refused(ReadingsFull, 0, 3, 7)),
+            (write(0, 3, 7, 70), Done),
+            (read(0, 3, 7), Value(70)),
         ],
     );
     // another chain has its own count
@@ -289,20 +289,20 @@ fn reads_of_own_writes_do_not_count_as_readings(rt: HostRuntime) {
     answers(
         &rt,
         &mut engine,
-        &[(Begin(0, 0), Leg(0)), (Write(0, 0, 20, 200), Done)],
+        &[(begin(0, 0), Leg(0)), (write(0, 0, 20, 200), Done)],
     );
     for _ in 0..40 {
-        answers(&rt, &mut engine, &[(Read(0, 0, 20), Value(200))]);
+        answers(&rt, &mut engine, &[(read(0, 0, 20), Value(200))]);
     }
     reads_filled(&rt, &mut engine, 0, 0, 0..16);
-    answers(&rt, &mut engine, &[(Hand(0, 0, 1), Leg(1))]);
+    answers(&rt, &mut engine, &[(hand(0, 0, 1), Leg(1))]);
     reads_filled(&rt, &mut engine, 0, 1, 0..16);
     answers(
         &rt,
         &mut engine,
         &[
-            (Read(0, 1, 21), refused(ReadingsFull, 0, 1, 21)),
-            (Read(0, 1, 20), Value(200)),
+            (read(0, 1, 21), refused(ReadingsFull, 0, 1, 21)),
+            (read(0, 1, 20), Value(200)),
         ],
     );
 }
@@ -319,24 +319,24 @@ fn abandon_frees_the_place_and_keeps_nothing_of_the_chain(rt: HostRuntime) {
         &rt,
         &mut engine,
         &[
-            (Abandon(0), Done),
-            (Abandon(0), refused_place(NotOpen, 0)),
-            (Read(0, 15, 0), refused(NotOpen, 0, 15, 0)),
-            (Begin(0, 0), Leg(0)),
-            (Begin(0, 0), refused_place(PlaceOccupied, 0)),
-            (Read(0, 15, 0), refused(NotOpen, 0, 15, 0)),
+            (abandon(0), Done),
+            (abandon(0), refused_place(NotOpen, 0)),
+            (read(0, 15, 0), refused(NotOpen, 0, 15, 0)),
+            (begin(0, 0), Leg(0)),
+            (begin(0, 0), refused_place(PlaceOccupied, 0)),
+            (read(0, 15, 0), refused(NotOpen, 0, 15, 0)),
         ],
     );
     reads_filled(&rt, &mut engine, 0, 0, 0..16);
-    answers(&rt, &mut engine, &[(Hand(0, 0, 0), Leg(1))]);
+    answers(&rt, &mut engine, &[(hand(0, 0, 0), Leg(1))]);
     reads_filled(&rt, &mut engine, 0, 1, 0..16);
     writes_keys(&rt, &mut engine, 0, 1, 700, &[8, 9, 10, 11, 12, 13, 14, 15]);
     answers(
         &rt,
         &mut engine,
         &[
-            (Read(0, 1, 8), Value(708)),
-            (Read(0, 1, 16), refused(ReadingsFull, 0, 1, 16)),
+            (read(0, 1, 8), Value(708)),
+            (read(0, 1, 16), refused(ReadingsFull, 0, 1, 16)),
             (Count, Notices(0, 0)),
         ],
     );
@@ -350,9 +350,9 @@ fn four_places_are_independent_and_a_chain_does_not_see_anothers_writes(rt: Host
             &rt,
             &mut engine,
             &[
-                (Begin(place, 0), Leg(0)),
-                (Write(place, 0, 5, u32::from(place)), Done),
-                (Write(place, 0, 10 + place, 7), Done),
+                (begin(place, 0), Leg(0)),
+                (write(place, 0, 5, u32::from(place)), Done),
+                (write(place, 0, 10 + place, 7), Done),
             ],
         );
     }
@@ -360,26 +360,26 @@ fn four_places_are_independent_and_a_chain_does_not_see_anothers_writes(rt: Host
         &rt,
         &mut engine,
         &[
-            (Read(0, 0, 5), Value(0)),
-            (Read(1, 0, 5), Value(1)),
-            (Read(2, 0, 5), Value(2)),
-            (Read(3, 0, 5), Value(3)),
-            (Read(0, 0, 10), Value(7)),
-            (Read(0, 0, 11), Value(111)),
-            (Read(1, 0, 10), Value(110)),
-            (Read(3, 0, 12), Value(112)),
-            (Fork(1, 0, 0, 0), Legs(1, 2)),
-            (Hand(2, 0, 0), Leg(1)),
-            (Abandon(3), Done),
-            (Read(0, 0, 5), Value(0)),
-            (Hand(0, 1, 0), refused_leg(NotOpen, 0, 1)),
-            (Read(1, 0, 5), refused(NotOpen, 1, 0, 5)),
-            (Read(1, 2, 5), Value(1)),
-            (Read(2, 1, 5), Value(2)),
-            (Read(3, 0, 5), refused(NotOpen, 3, 0, 5)),
-            (Begin(3, 7), Leg(0)),
-            (Read(3, 0, 5), Value(105)),
-            (Begin(0, 7), refused_place(PlaceOccupied, 0)),
+            (read(0, 0, 5), Value(0)),
+            (read(1, 0, 5), Value(1)),
+            (read(2, 0, 5), Value(2)),
+            (read(3, 0, 5), Value(3)),
+            (read(0, 0, 10), Value(7)),
+            (read(0, 0, 11), Value(111)),
+            (read(1, 0, 10), Value(110)),
+            (read(3, 0, 12), Value(112)),
+            (fork(1, 0, 0, 0), Legs(1, 2)),
+            (hand(2, 0, 0), Leg(1)),
+            (abandon(3), Done),
+            (read(0, 0, 5), Value(0)),
+            (hand(0, 1, 0), refused_leg(NotOpen, 0, 1)),
+            (read(1, 0, 5), refused(NotOpen, 1, 0, 5)),
+            (read(1, 2, 5), Value(1)),
+            (read(2, 1, 5), Value(2)),
+            (read(3, 0, 5), refused(NotOpen, 3, 0, 5)),
+            (begin(3, 7), Leg(0)),
+            (read(3, 0, 5), Value(105)),
+            (begin(0, 7), refused_place(PlaceOccupied, 0)),
         ],
     );
 }
@@ -392,11 +392,11 @@ fn reads_what_was_committed<S: Store>(rt: &impl Abort, engine: &mut Engine<S>) {
         answers(
             rt,
             engine,
-            &[(Begin(1, worker), Leg(0)), (Begin(3, worker), Leg(0))],
+            &[(begin(1, worker), Leg(0)), (begin(3, worker), Leg(0))],
         );
         reads_filled(rt, engine, 1, 0, 32..64);
         reads_filled(rt, engine, 3, 0, 0..32);
-        answers(rt, engine, &[(Abandon(1), Done), (Abandon(3), Done)]);
+        answers(rt, engine, &[(abandon(1), Done), (abandon(3), Done)]);
     }
 }
 
@@ -416,9 +416,9 @@ fn chains_over_a_table_read_what_was_committed(rt: HostRuntime) {
 #[test]
 fn chain_over_a_new_store_reads_zeros(rt: HostRuntime) {
     let steps = [
-        (Begin(0, 0), Leg(0)),
-        (Read(0, 0, 0), Value(0)),
-        (Read(0, 0, 63), Value(0)),
+        (begin(0, 0), Leg(0)),
+        (read(0, 0, 0), Value(0)),
+        (read(0, 0, 63), Value(0)),
         (Count, Notices(0, 0)),
     ];
     let mut memory = [NO_RECORD; 64];
@@ -429,7 +429,7 @@ fn chain_over_a_new_store_reads_zeros(rt: HostRuntime) {
 // A commit by the store itself, at this time.
 fn commit<S: Store>(rt: &impl Abort, store: &mut S, clock: u64, key: u8, value: u32) {
     assert_eq!(rt;
-        store.commit(clock, &[StoreWrite { key, value }]).ok(),
+        store.commit(clock, &[Write { key, value }]).ok(),
         Some(clock)
     );
 }
@@ -470,22 +470,22 @@ fn prune_of_a_table_drops_older_versions_and_leaves_the_newest_to_read(rt: HostR
             &rt,
             &mut Engine::new(table),
             &[
-                (Begin(0, 0), Leg(0)),
-                (Read(0, 0, 1), Value(13)),
-                (Write(0, 0, 4, 99), Done),
-                (Prune(horizon), Done),
-                (Read(0, 0, 1), Value(13)),
-                (Read(0, 0, 2), Value(22)),
-                (Read(0, 0, 3), Value(0)),
-                (Read(0, 0, 4), Value(99)),
-                (Begin(1, 1), Leg(0)),
-                (Read(1, 0, 3), Value(0)),
-                (Read(1, 0, 2), Value(22)),
-                (Read(1, 0, 1), Value(13)),
-                (Prune(horizon), Done),
-                (Hand(1, 0, 2), Leg(1)),
-                (Read(1, 1, 1), Value(13)),
-                (Read(1, 1, 2), Value(22)),
+                (begin(0, 0), Leg(0)),
+                (read(0, 0, 1), Value(13)),
+                (write(0, 0, 4, 99), Done),
+                (prune(horizon), Done),
+                (read(0, 0, 1), Value(13)),
+                (read(0, 0, 2), Value(22)),
+                (read(0, 0, 3), Value(0)),
+                (read(0, 0, 4), Value(99)),
+                (begin(1, 1), Leg(0)),
+                (read(1, 0, 3), Value(0)),
+                (read(1, 0, 2), Value(22)),
+                (read(1, 0, 1), Value(13)),
+                (prune(horizon), Done),
+                (hand(1, 0, 2), Leg(1)),
+                (read(1, 1, 1), Value(13)),
+                (read(1, 1, 2), Value(22)),
                 (Count, Notices(0, 0)),
             ],
         );
@@ -507,9 +507,9 @@ fn prune_of_the_newest_store_leaves_it_as_it_is(rt: HostRuntime) {
         &rt,
         &mut engine,
         &[
-            (Prune(0), Done),
-            (Begin(0, 0), Leg(0)),
-            (Prune(u64::MAX), Done),
+            (prune(0), Done),
+            (begin(0, 0), Leg(0)),
+            (prune(u64::MAX), Done),
         ],
     );
     reads_filled(&rt, &mut engine, 0, 0, 32..64);

@@ -1,4 +1,5 @@
-// Tests of the engine's calls and of its parts: caches, notices, write sets and lists of bounded length.
+// Tests of the engine's calls and of its parts: caches, notices, write sets and lists of bounded length. How a test writes a
+// call and an answer is public, for other tests of the engine.
 #![tactic(auto)]
 
 #[cfg(test)]
@@ -13,5 +14,6 @@ mod lists;
 mod notices;
 #[cfg(test)]
 mod questions;
+pub mod seen;
 #[cfg(test)]
 mod steps;

@@ -4,12 +4,13 @@ ghost use Rattle.std.proofs.Common.{lit≤};
 ghost use Rattle.store.specs.Meaning.{commit_answer, after_commit, after_prune};
 ghost use Rattle.newest_store.specs.Newest.{newest_meaning};
 
-use crate::steps::Call::{self, Abandon, Begin, Fork, Hand, Join, Prune, Read, Write};
-use crate::steps::Seen::{self, Done, Leg, Legs, Value};
-use crate::steps::{answers, fill, reads_filled, refused};
+use crate::seen::Seen::{self, Done, Leg, Legs, Value};
+use crate::seen::{abandon, begin, fork, hand, join, prune, read, refused, write};
+use crate::steps::{answers, fill, reads_filled};
 use engine::engine::Engine;
+use lives::calls::Call;
 use newest_store::newest::Newest;
-use snapshot::account::{Reading, Write as StoreWrite};
+use snapshot::account::{Reading, Write};
 use snapshot::fault::Fault;
 use snapshot::fault::Refusal::{NotOpen, OutOfRange, ReadingsFull};
 use snapshot::limits::OPEN_END;
@@ -53,7 +54,7 @@ impl Store for Watched<'_> {
         1
     }
 
-    fn commit(&mut self, clock: u64, writes: &[StoreWrite]) -> Result<u64, Fault>
+    fn commit(&mut self, clock: u64, writes: &[Write]) -> Result<u64, Fault>
         ensures answer { result ≡ commit_answer 1 clock writes.now (newest_meaning self.old.store) }
         ensures after { newest_meaning self.new.store ≡ after_commit 1 clock writes.now (newest_meaning self.old.store) }
         ensures unchanged { OnErr result (self.new ≡ self.old) }
@@ -97,20 +98,20 @@ fn store_is_asked_at_the_high_end_of_the_legs_interval(rt: HostRuntime) {
         &mut over_watched(&rt, &asked),
         &asked,
         &[
-            (Begin(0, 0), Leg(0), None),
-            (Read(0, 0, 5), Value(105), Some((5, OPEN_END))),
-            (Read(0, 0, 6), Value(106), Some((6, 64))),
-            (Hand(0, 0, 1), Leg(1), None),
-            (Read(0, 1, 7), Value(107), Some((7, 64))),
-            (Fork(0, 1, 2, 3), Legs(2, 3), None),
-            (Read(0, 3, 8), Value(108), Some((8, 64))),
+            (begin(0, 0), Leg(0), None),
+            (read(0, 0, 5), Value(105), Some((5, OPEN_END))),
+            (read(0, 0, 6), Value(106), Some((6, 64))),
+            (hand(0, 0, 1), Leg(1), None),
+            (read(0, 1, 7), Value(107), Some((7, 64))),
+            (fork(0, 1, 2, 3), Legs(2, 3), None),
+            (read(0, 3, 8), Value(108), Some((8, 64))),
             // the interval of a leg of another chain is its own
-            (Begin(1, 4), Leg(0), None),
-            (Fork(1, 0, 5, 6), Legs(1, 2), None),
-            (Read(1, 1, 9), Value(109), Some((9, OPEN_END))),
-            (Read(1, 2, 9), Value(109), Some((9, OPEN_END))),
-            (Join(1, 1, 2, 7), Leg(3), None),
-            (Read(1, 3, 9), Value(109), Some((9, 64))),
+            (begin(1, 4), Leg(0), None),
+            (fork(1, 0, 5, 6), Legs(1, 2), None),
+            (read(1, 1, 9), Value(109), Some((9, OPEN_END))),
+            (read(1, 2, 9), Value(109), Some((9, OPEN_END))),
+            (join(1, 1, 2, 7), Leg(3), None),
+            (read(1, 3, 9), Value(109), Some((9, 64))),
         ],
     );
 }
@@ -124,12 +125,12 @@ fn store_is_not_asked_for_what_the_leg_wrote_or_read_or_where_a_read_is_refused(
         &mut engine,
         &asked,
         &[
-            (Read(0, 0, 5), refused(NotOpen, 0, 0, 5), None),
-            (Begin(0, 0), Leg(0), None),
-            (Write(0, 0, 40, 7), Done, None),
-            (Read(0, 0, 40), Value(7), None),
-            (Read(0, 0, 64), refused(OutOfRange, 0, 0, 64), None),
-            (Read(0, 1, 5), refused(NotOpen, 0, 1, 5), None),
+            (read(0, 0, 5), refused(NotOpen, 0, 0, 5), None),
+            (begin(0, 0), Leg(0), None),
+            (write(0, 0, 40, 7), Done, None),
+            (read(0, 0, 40), Value(7), None),
+            (read(0, 0, 64), refused(OutOfRange, 0, 0, 64), None),
+            (read(0, 1, 5), refused(NotOpen, 0, 1, 5), None),
         ],
     );
     reads_filled(&rt, &mut engine, 0, 0, 0..32);
@@ -138,8 +139,8 @@ fn store_is_not_asked_for_what_the_leg_wrote_or_read_or_where_a_read_is_refused(
         &mut engine,
         &asked,
         &[
-            (Read(0, 0, 0), Value(100), None),
-            (Read(0, 0, 32), refused(ReadingsFull, 0, 0, 32), None),
+            (read(0, 0, 0), Value(100), None),
+            (read(0, 0, 32), refused(ReadingsFull, 0, 0, 32), None),
         ],
     );
 }
@@ -152,22 +153,22 @@ fn what_a_worker_read_is_in_its_cache_alone_for_later_legs_and_chains(rt: HostRu
         &mut over_watched(&rt, &asked),
         &asked,
         &[
-            (Begin(0, 3), Leg(0), None),
-            (Read(0, 0, 5), Value(105), Some((5, OPEN_END))),
-            (Hand(0, 0, 3), Leg(1), None),
-            (Read(0, 1, 5), Value(105), None),
-            (Hand(0, 1, 4), Leg(2), None),
-            (Read(0, 2, 5), Value(105), Some((5, 64))),
-            (Abandon(0), Done, None),
-            (Prune(u64::MAX), Done, None),
-            (Begin(1, 3), Leg(0), None),
-            (Read(1, 0, 5), Value(105), None),
-            (Begin(2, 4), Leg(0), None),
-            (Read(2, 0, 5), Value(105), None),
+            (begin(0, 3), Leg(0), None),
+            (read(0, 0, 5), Value(105), Some((5, OPEN_END))),
+            (hand(0, 0, 3), Leg(1), None),
+            (read(0, 1, 5), Value(105), None),
+            (hand(0, 1, 4), Leg(2), None),
+            (read(0, 2, 5), Value(105), Some((5, 64))),
+            (abandon(0), Done, None),
+            (prune(u64::MAX), Done, None),
+            (begin(1, 3), Leg(0), None),
+            (read(1, 0, 5), Value(105), None),
+            (begin(2, 4), Leg(0), None),
+            (read(2, 0, 5), Value(105), None),
             // a cache's answer narrows as a store's does
-            (Read(2, 0, 6), Value(106), Some((6, 64))),
-            (Begin(3, 7), Leg(0), None),
-            (Read(3, 0, 5), Value(105), Some((5, OPEN_END))),
+            (read(2, 0, 6), Value(106), Some((6, 64))),
+            (begin(3, 7), Leg(0), None),
+            (read(3, 0, 5), Value(105), Some((5, OPEN_END))),
         ],
     );
 }
@@ -181,24 +182,24 @@ fn legs_run_at_the_workers_that_were_named(rt: HostRuntime) {
         &asked,
         &[
             // worker 1 alone gets key 5, worker 2 alone key 6
-            (Begin(0, 1), Leg(0), None),
-            (Read(0, 0, 5), Value(105), Some((5, OPEN_END))),
-            (Begin(1, 2), Leg(0), None),
-            (Read(1, 0, 6), Value(106), Some((6, OPEN_END))),
-            (Begin(2, 0), Leg(0), None),
-            (Fork(2, 0, 1, 2), Legs(1, 2), None),
-            (Read(2, 1, 5), Value(105), None),
-            (Read(2, 2, 6), Value(106), None),
-            (Begin(3, 0), Leg(0), None),
-            (Fork(3, 0, 2, 1), Legs(1, 2), None),
-            (Read(3, 1, 6), Value(106), None),
-            (Read(3, 2, 5), Value(105), None),
-            (Join(3, 1, 2, 1), Leg(3), None),
-            (Read(3, 3, 5), Value(105), None),
-            (Read(3, 3, 6), Value(106), Some((6, 64))),
-            (Join(2, 2, 1, 2), Leg(3), None),
-            (Read(2, 3, 6), Value(106), None),
-            (Read(2, 3, 5), Value(105), Some((5, 64))),
+            (begin(0, 1), Leg(0), None),
+            (read(0, 0, 5), Value(105), Some((5, OPEN_END))),
+            (begin(1, 2), Leg(0), None),
+            (read(1, 0, 6), Value(106), Some((6, OPEN_END))),
+            (begin(2, 0), Leg(0), None),
+            (fork(2, 0, 1, 2), Legs(1, 2), None),
+            (read(2, 1, 5), Value(105), None),
+            (read(2, 2, 6), Value(106), None),
+            (begin(3, 0), Leg(0), None),
+            (fork(3, 0, 2, 1), Legs(1, 2), None),
+            (read(3, 1, 6), Value(106), None),
+            (read(3, 2, 5), Value(105), None),
+            (join(3, 1, 2, 1), Leg(3), None),
+            (read(3, 3, 5), Value(105), None),
+            (read(3, 3, 6), Value(106), Some((6, 64))),
+            (join(2, 2, 1, 2), Leg(3), None),
+            (read(2, 3, 6), Value(106), None),
+            (read(2, 3, 5), Value(105), Some((5, 64))),
         ],
     );
 }
@@ -207,7 +208,7 @@ fn legs_run_at_the_workers_that_were_named(rt: HostRuntime) {
 fn ninth_key_of_a_worker_takes_the_place_of_the_one_used_longest_ago(rt: HostRuntime) {
     let asked = Cell::new(None);
     let mut engine = over_watched(&rt, &asked);
-    answers(&rt, &mut engine, &[(Begin(0, 0), Leg(0))]);
+    answers(&rt, &mut engine, &[(begin(0, 0), Leg(0))]);
     reads_filled(&rt, &mut engine, 0, 0, 0..8);
     asks(
         &rt,
@@ -215,17 +216,17 @@ fn ninth_key_of_a_worker_takes_the_place_of_the_one_used_longest_ago(rt: HostRun
         &asked,
         &[
             // key 0 is used again from the cache, and 1 is now the oldest
-            (Begin(1, 0), Leg(0), None),
-            (Read(1, 0, 0), Value(100), None),
-            (Read(1, 0, 8), Value(108), Some((8, 64))),
-            (Begin(2, 0), Leg(0), None),
-            (Read(2, 0, 0), Value(100), None),
-            (Read(2, 0, 1), Value(101), Some((1, 64))),
+            (begin(1, 0), Leg(0), None),
+            (read(1, 0, 0), Value(100), None),
+            (read(1, 0, 8), Value(108), Some((8, 64))),
+            (begin(2, 0), Leg(0), None),
+            (read(2, 0, 0), Value(100), None),
+            (read(2, 0, 1), Value(101), Some((1, 64))),
             // that took the place of 2
-            (Begin(3, 0), Leg(0), None),
-            (Read(3, 0, 3), Value(103), None),
-            (Read(3, 0, 2), Value(102), Some((2, 64))),
-            (Read(3, 0, 4), Value(104), Some((4, 64))),
+            (begin(3, 0), Leg(0), None),
+            (read(3, 0, 3), Value(103), None),
+            (read(3, 0, 2), Value(102), Some((2, 64))),
+            (read(3, 0, 4), Value(104), Some((4, 64))),
         ],
     );
 }
@@ -234,22 +235,22 @@ fn ninth_key_of_a_worker_takes_the_place_of_the_one_used_longest_ago(rt: HostRun
 fn what_the_leg_wrote_or_read_itself_is_not_a_use_of_the_workers_entry(rt: HostRuntime) {
     let asked = Cell::new(None);
     let mut engine = over_watched(&rt, &asked);
-    answers(&rt, &mut engine, &[(Begin(0, 0), Leg(0))]);
+    answers(&rt, &mut engine, &[(begin(0, 0), Leg(0))]);
     reads_filled(&rt, &mut engine, 0, 0, 0..8);
     asks(
         &rt,
         &mut engine,
         &asked,
         &[
-            (Read(0, 0, 0), Value(100), None),
-            (Write(0, 0, 1, 7), Done, None),
-            (Read(0, 0, 1), Value(7), None),
+            (read(0, 0, 0), Value(100), None),
+            (write(0, 0, 1, 7), Done, None),
+            (read(0, 0, 1), Value(7), None),
             // 0, 1 and 2 are still the oldest, and give way in this order
-            (Begin(1, 0), Leg(0), None),
-            (Read(1, 0, 8), Value(108), Some((8, OPEN_END))),
-            (Read(1, 0, 0), Value(100), Some((0, 64))),
-            (Read(1, 0, 1), Value(101), Some((1, 64))),
-            (Read(1, 0, 3), Value(103), None),
+            (begin(1, 0), Leg(0), None),
+            (read(1, 0, 8), Value(108), Some((8, OPEN_END))),
+            (read(1, 0, 0), Value(100), Some((0, 64))),
+            (read(1, 0, 1), Value(101), Some((1, 64))),
+            (read(1, 0, 3), Value(103), None),
         ],
     );
 }

@@ -1,110 +1,19 @@
 // Lists of an engine's calls, each with the answer that is expected of it.
+use crate::seen::{Seen, begin, hand, read, seen_of, write};
 use engine::engine::Engine;
+use lives::calls::Call;
 use newest_store::newest::Newest;
 use snapshot::account::Write;
-use snapshot::fault::{EngineFault, Fault, Layer, Refusal};
 use snapshot::limits::KEYS;
 use std::ops::Range;
 use std::process::Abort;
 use store::traits::Store;
 
-// A call with its numbers, in the order of the engine's parameters.
-#[derive(Clone, Copy)]
-pub(crate) enum Call {
-    Begin(u8, u8),
-    Hand(u8, u8, u8),
-    Fork(u8, u8, u8, u8),
-    Join(u8, u8, u8, u8),
-    Read(u8, u8, u8),
-    Write(u8, u8, u8, u32),
-    Abandon(u8),
-    Deliver(u64),
-    Discard(u64),
-    Count,
-    Prune(u64),
-}
-
-// An answer: a new leg, the two of a fork, a value, how many notices wait and were lost, that it is done, or a fault.
-#[derive(Clone, Copy, PartialEq, Eq, Debug)]
-pub(crate) enum Seen {
-    Leg(u8),
-    Legs(u8, u8),
-    Value(u32),
-    Notices(usize, u64),
-    Done,
-    Refused(EngineFault),
-}
-
-// What was answered, or the fault.
-fn answer_of<T: Drop, F: FnOnce(T) -> Seen>(answer: Result<T, EngineFault>, accepted: F) -> Seen
-    requires { F.IsAlwaysCallable accepted }
-{
-    match answer {
-        Ok(answer) => accepted(answer),
-        Err(fault) => Seen::Refused(fault),
-    }
-}
-
-// Makes the call.
-fn perform<S: Store>(engine: &mut Engine<S>, call: Call) -> Seen {
-    match call {
-        Call::Begin(place, worker) => answer_of(engine.begin(place, worker), Seen::Leg),
-        Call::Hand(place, leg, worker) => answer_of(engine.hand(place, leg, worker), Seen::Leg),
-        Call::Fork(place, leg, first, second) => {
-            answer_of(engine.fork(place, leg, first, second), |legs| {
-                Seen::Legs(legs.0, legs.1)
-            })
-        }
-        Call::Join(place, first, second, worker) => {
-            answer_of(engine.join(place, first, second, worker), Seen::Leg)
-        }
-        Call::Read(place, leg, key) => answer_of(engine.read(place, leg, key), Seen::Value),
-        Call::Write(place, leg, key, value) => {
-            answer_of(engine.write(place, leg, key, value), |()| Seen::Done)
-        }
-        Call::Abandon(place) => answer_of(engine.abandon(place), |()| Seen::Done),
-        Call::Deliver(position) => answer_of(engine.deliver(position), |()| Seen::Done),
-        Call::Discard(position) => answer_of(engine.discard(position), |()| Seen::Done),
-        Call::Count => {
-            let (waiting, lost) = engine.count();
-            Seen::Notices(waiting, lost)
-        }
-        Call::Prune(horizon) => {
-            engine.prune(horizon);
-            Seen::Done
-        }
-    }
-}
-
 // The engine answers each call so, in this order.
 pub(crate) fn answers<S: Store>(rt: &impl Abort, engine: &mut Engine<S>, steps: &[(Call, Seen)]) {
     for (number, (call, expected)) in steps.iter().enumerate() {
-        assert_eq!(rt; perform(engine, *call), *expected, "call {number}");
+        assert_eq!(rt; seen_of(&engine.perform(*call)), *expected, "call {number}");
     }
-}
-
-// A refusal of the engine's own, with the place, leg and key that its fault has.
-pub(crate) fn refused(refusal: Refusal, place: u8, leg: u8, key: u8) -> Seen {
-    Seen::Refused(EngineFault {
-        fault: Fault {
-            refusal,
-            layer: Layer::Chain,
-            place,
-            leg,
-            key,
-        },
-        of_store: None,
-    })
-}
-
-// The same for a call that names no key.
-pub(crate) fn refused_leg(refusal: Refusal, place: u8, leg: u8) -> Seen {
-    refused(refusal, place, leg, 255)
-}
-
-// The same for a call that names neither leg nor key.
-pub(crate) fn refused_place(refusal: Refusal, place: u8) -> Seen {
-    refused(refusal, place, 255, 255)
 }
 
 // Gives key 0 the value 100 at time 1, key 1 the value 101 at time 2, and so on for all 64 keys.
@@ -128,9 +37,9 @@ pub(crate) fn over_newest(rt: &impl Abort) -> Engine<Newest> {
 
 // Begins a chain at place 0 and hands it on until this leg, at worker 0.
 pub(crate) fn hand_up_to<S: Store>(rt: &impl Abort, engine: &mut Engine<S>, last: u8) {
-    answers(rt, engine, &[(Call::Begin(0, 0), Seen::Leg(0))]);
+    answers(rt, engine, &[(begin(0, 0), Seen::Leg(0))]);
     for leg in 0..last {
-        answers(rt, engine, &[(Call::Hand(0, leg, 0), Seen::Leg(leg + 1))]);
+        answers(rt, engine, &[(hand(0, leg, 0), Seen::Leg(leg + 1))]);
     }
 }
 
@@ -146,10 +55,7 @@ pub(crate) fn reads_filled<S: Store>(
         answers(
             rt,
             engine,
-            &[(
-                Call::Read(place, leg, key),
-                Seen::Value(100 + u32::from(key)),
-            )],
+            &[(read(place, leg, key), Seen::Value(100 + u32::from(key)))],
         );
     }
 }
@@ -168,7 +74,7 @@ pub(crate) fn writes_keys<S: Store>(
             rt,
             engine,
             &[(
-                Call::Write(place, leg, *key, u32::from(value) + u32::from(*key)),
+                write(place, leg, *key, u32::from(value) + u32::from(*key)),
                 Seen::Done,
             )],
         );

@@ -1,0 +1,5 @@
+pub mod NumberProofs
+pub mod HexProofs
+pub mod BookProofs
+pub mod ListProofs
+pub mod PlayProofs

@@ -1,0 +1,6 @@
+pub mod Numbers
+pub mod Words
+pub mod Requests
+pub mod Lines
+pub mod Shown
+pub mod Played

@@ -1,0 +1,10 @@
+// Scripts of engine calls: what a line says, how a call and its answer are shown, and the playing of a script.
+#![tactic(auto)]
+
+pub mod line;
+mod number;
+pub mod parse;
+pub mod play;
+mod request;
+pub mod show;
+mod words;
