@@ -1,5 +1,6 @@
 -- What a script prints: each call with what the rules draw for it, and the number of each bad line.
-use Rattle.std.specs.Prelude.{ℕ, ◌+◌, ◌==◌, min, if◌then◌else◌, List, [], ◌∷◌, ◌++◌, Result, Ok, Err, codes, decimal, map}
+use Rattle.std.specs.Prelude.{ℕ, ◌+◌, ◌==◌, min, if◌then◌else◌, List, [], ◌∷◌, ◌++◌, Result, Ok, Err, codes, decimal, map, Option, IfSome, OnOk}
+use Rattle.std.specs.Io.KnownBytes.{Appends}
 use Rattle.std.specs.List.{onto_first}
 use Rattle.snapshot.specs.Limits.{keys, most_records}
 use Rattle.snapshot.specs.declared.fault.EngineFault.{EngineFault}
@@ -83,3 +84,8 @@ played number (line.Call request ∷ lines) =
 -- what a script prints
 abbrev pub printed : List ℕ → List ℕ
 printed script = played 1 (said_in script)
+
+-- An accepted call printed what this draws from the bytes that the input had left. Where the bytes of the input or of the output
+-- are not known, as at a terminal, it says nothing.
+abbrev pub Prints : {X E : Type 0} → Result X E → Option (List ℕ) → Option (List ℕ) → Option (List ℕ) → (List ℕ → List ℕ) → Type 0
+Prints result left before after text = OnOk result (IfSome left (λ rest. Appends before after (text rest)))

@@ -5,7 +5,7 @@ ghost use Rattle.std.specs.Io.KnownBytes.{Appends};
 ghost use Rattle.engine.specs.Engines.{engine_of};
 ghost use Rattle.engine.specs.Performing.{performed};
 ghost use Rattle.script.specs.Lines.{line_of};
-ghost use Rattle.script.specs.Played.{after_line, checked, line_text, outcome_of, played, played_on, printed, said_in, told, told_bad};
+ghost use Rattle.script.specs.Played.{Prints, after_line, checked, line_text, outcome_of, played, played_on, printed, said_in, told, told_bad};
 ghost use Rattle.script.specs.declared.line.Line.TheVariants as line;
 ghost use Rattle.script.specs.declared.line.StoreKind.TheVariants as kind;
 ghost use Rattle.snapshot.specs.Limits.{most_records};
@@ -26,11 +26,12 @@ use store::traits::Store;
 use table_store::record::{NO_RECORD, Record};
 use table_store::table::Table;
 
-// Plays the script that the input has, to its end, and writes each call with what it came to, and each bad line's number.
-// Fails where the input cannot be read, the output cannot be written, there is no memory for a line, or there are more lines
-// than can be counted in 64 bits. Where the bytes of input and output are known, as in memory, the contract says them.
+// Plays the script that the input has, to its end, and writes each call with what it came to, and each bad line's
+// number. Fails where the input cannot be read, the output cannot be written, there is no memory for a line, or there
+// are more lines than can be counted in 64 bits. The contract says what is written where the bytes of input and output
+// are known, as in memory.
 pub fn play<R: BufRead, W: Write>(heap: Global, input: &mut R, output: &mut W) -> io::Result<()>
-    ensures { OnOk result (IfSome (R.Read.remaining input.old) (λ script. Appends (W.contents output.old) (W.contents output.new) (printed script))) }
+    ensures { Prints result (R.Read.remaining input.old) (W.contents output.old) (W.contents output.new) printed }
 {
     let mut bytes = Vec::new(heap);
     for number in 1..u64::MAX {
@@ -72,7 +73,7 @@ fn play_over<R: BufRead, W: Write>(
     kind: StoreKind,
 ) -> io::Result<()>
     requires { number + 1 < 2 ^ 64 }
-    ensures { OnOk result (IfSome (R.Read.remaining input.old) (λ rest. Appends (W.contents output.old) (W.contents output.new) (played number (line.Store kind ∷ said_in rest)))) }
+    ensures { Prints result (R.Read.remaining input.old) (W.contents output.old) (W.contents output.new) (λ rest. played number (line.Store kind ∷ said_in rest)) }
 {
     match kind {
         StoreKind::Newest => {
@@ -99,8 +100,8 @@ fn play_over<R: BufRead, W: Write>(
     }
 }
 
-// Plays a script from the line that asks for a table of so many records, which lie in this memory. Where the table refuses
-// the memory, that is told, and the script goes on over the store that it gives.
+// Plays a script from the line that asks for a table of so many records, which lie in this memory. Where the table
+// refuses the memory, that is told, and the script goes on over the store that it gives.
 fn play_over_table<R: BufRead, W: Write>(
     input: &mut R,
     output: &mut W,
@@ -111,7 +112,7 @@ fn play_over_table<R: BufRead, W: Write>(
 ) -> io::Result<()>
     requires number { number + 1 < 2 ^ 64 }
     requires size { length memory.old ≡ min records most_records }
-    ensures { OnOk result (IfSome (R.Read.remaining input.old) (λ rest. Appends (W.contents output.old) (W.contents output.new) (played number (line.Store (kind.Table records) ∷ said_in rest)))) }
+    ensures { Prints result (R.Read.remaining input.old) (W.contents output.old) (W.contents output.new) (λ rest. played number (line.Store (kind.Table records) ∷ said_in rest)) }
 {
     tell(
         output,
@@ -136,7 +137,7 @@ fn play_from<R: BufRead, W: Write>(
     first: Request,
 ) -> io::Result<()>
     requires { number + 1 < 2 ^ 64 }
-    ensures { OnOk result (IfSome (R.Read.remaining input.old) (λ rest. Appends (W.contents output.old) (W.contents output.new) (played number (line.Call first ∷ said_in rest)))) }
+    ensures { Prints result (R.Read.remaining input.old) (W.contents output.old) (W.contents output.new) (λ rest. played number (line.Call first ∷ said_in rest)) }
 {
     let mut memory = [NO_RECORD; MOST_RECORDS];
     let mut engine = Engine::new(Table::new(&mut memory));
@@ -152,7 +153,7 @@ fn play_on<R: BufRead, W: Write, S: Store>(
     first: u64,
     engine: &mut Engine<S>,
 ) -> io::Result<()>
-    ensures { OnOk result (IfSome (R.Read.remaining input.old) (λ rest. Appends (W.contents output.old) (W.contents output.new) (played_on S.Store.depth (engine_of S.Reads.meaning engine.old) first (said_in rest)))) }
+    ensures { Prints result (R.Read.remaining input.old) (W.contents output.old) (W.contents output.new) (λ rest. played_on S.Store.depth (engine_of S.Reads.meaning engine.old) first (said_in rest)) }
 {
     for number in first..u64::MAX {
         let Some(line) = next_line(input, bytes)? else {

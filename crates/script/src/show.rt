@@ -252,7 +252,7 @@ impl fmt::Display for BookShown<'_> {
     }
 }
 
-// The bytes of the account, which the book's writer puts into the buffer, or its refusal of an account that is not lawful.
+// The bytes of the account, which the book's writer puts into the buffer, or its refusal of an unlawful account.
 fn book_bytes<'a>(
     account: &Account,
     buffer: &'a mut [u8; LONGEST_ACCOUNT],

@@ -1,5 +1,5 @@
-// Plays the scripts of data/, each behind a line with its name; what they must print was computed by other implementations
-// of the rules. The tests of lines, of what is shown and of the playing stand in `tests`.
+// Plays the scripts of data/, each behind a line with its name; what they must print was computed by other
+// implementations of the rules. The tests of lines, of what is shown and of the playing stand in `tests`.
 #![tactic(auto)]
 
 #[cfg(test)]

@@ -279,8 +279,8 @@ fn store_is_named_at_most_once_and_before_any_call(rt: HostRuntime) -> Result<()
 fn table_of_unfit_memory_is_refused_and_the_script_goes_on_over_it(
     rt: HostRuntime,
 ) -> Result<(), Fail> {
-    let script = b"\nbegin 0 0\nread 0 0 9\nwrite 0 0 9 1\ncommit 0 0 5\nstore newest";
-    let rest = "begin 0 0 -> leg 0\nread 0 0 9 -> value 0\nwrite 0 0 9 1 -> done\n\
+    let behind = "begin 0 0\nread 0 0 9\nwrite 0 0 9 1\ncommit 0 0 5\nstore newest";
+    let told_behind = "begin 0 0 -> leg 0\nread 0 0 9 -> value 0\nwrite 0 0 9 1 -> done\n\
         commit 0 0 5 -> refused 14 store 0 0 255\nbad 6\n";
     let heap = rt.alloc();
     for (first, told) in [
@@ -289,19 +289,14 @@ fn table_of_unfit_memory_is_refused_and_the_script_goes_on_over_it(
         // as many records as there are keys: no room for a second version
         ("store table 64", "done"),
     ] {
-        let mut whole = String::from_str(heap, first)?;
-        whole.push_str(str_of(script))?;
-        let expected = format!(in heap; "{first} -> {told}\n{rest}")?;
-        prints(&rt, whole.as_str().as_bytes(), expected.as_str())?;
+        let script = format!(in heap; "{first}\n{behind}")?;
+        let expected = format!(in heap; "{first} -> {told}\n{told_behind}")?;
+        prints(&rt, script.as_str().as_bytes(), expected.as_str())?;
     }
     Ok(())
 }
 
-fn str_of(bytes: &[u8]) -> &str {
-    std::str::from_utf8(bytes).unwrap_or("")
-}
-
-// The zone is written at 10 and at 20, and a chain that stands at 10 reads it.
+// Key 1 is read at 10, and a chain that stands there reads key 2, which was written at 20.
 const OLD_READ: &[u8] = b"begin 0 0\nwrite 0 0 1 1\ncommit 0 0 10\nbegin 1 1\nread 1 0 1\n\
     begin 0 0\nwrite 0 0 1 2\nwrite 0 0 2 2\ncommit 0 0 20\nread 1 0 2\n";
 
