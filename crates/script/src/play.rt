@@ -5,6 +5,7 @@ ghost use Rattle.std.specs.Io.KnownBytes.{Appends};
 ghost use Rattle.engine.specs.Engines.{engine_of};
 ghost use Rattle.engine.specs.Performing.{performed};
 ghost use Rattle.script.specs.Lines.{line_of};
+ghost use Rattle.script.specs.ScriptLives.{PrintsLife};
 ghost use Rattle.script.specs.Played.{Prints, after_line, checked, line_text, outcome_of, played, played_on, printed, said_in, told, told_bad};
 ghost use Rattle.script.specs.declared.line.Line.TheVariants as line;
 ghost use Rattle.script.specs.declared.line.StoreKind.TheVariants as kind;
@@ -29,9 +30,11 @@ use table_store::table::Table;
 // Plays the script that the input has, to its end, and writes each call with what it came to, and each bad line's
 // number. Fails where the input cannot be read, the output cannot be written, there is no memory for a line, or there
 // are more lines than can be counted in 64 bits. The contract says what is written where the bytes of input and output
-// are known, as in memory.
+// are known, as in memory, and that this shows a life that keeps the law of lives.
+#[tactic(auto, using(crate::proofs::LifeProofs::prints_life))]
 pub fn play<R: BufRead, W: Write>(heap: Global, input: &mut R, output: &mut W) -> io::Result<()>
-    ensures { Prints result (R.Read.remaining input.old) (W.contents output.old) (W.contents output.new) printed }
+    ensures prints { Prints result (R.Read.remaining input.old) (W.contents output.old) (W.contents output.new) printed }
+    ensures life { IfSome (R.Read.remaining input.old) PrintsLife }
 {
     let mut bytes = Vec::new(heap);
     for number in 1..u64::MAX {

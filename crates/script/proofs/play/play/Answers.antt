@@ -6,8 +6,8 @@ use Rattle.script.proofs.PlayProofs.{closes, ends, nothing, on_ok, steps}
 use Rattle.script.proofs.play.play.Goals as goal
 use Rattle.script.proofs.play.play.Goals.{in-Blank, in-Bad+in_ok-tell_bad-in-Bad}
 
-pub returns-in_default : goal.returns-in_default
-returns-in_default g c =
+pub returns-in_default-clause-prints : goal.returns-in_default-clause-prints
+returns-in_default-clause-prints g c =
     ends
     (g.R.Read.remaining c.args.input.now)
     (g.R.Read.remaining c.loop-number.input)
@@ -21,8 +21,8 @@ returns-in_default g c =
     c.in_default.is
     refl
 
-pub returns-in-Store : goal.returns-in-Store
-returns-in-Store g c =
+pub returns-in-Store-clause-prints : goal.returns-in-Store-clause-prints
+returns-in-Store-clause-prints g c =
     let number = c.loop-number.number in
     on_ok c.play_over.result _ _ c.play_over.ensures (λ prints.
     closes
@@ -44,8 +44,8 @@ returns-in-Store g c =
     prints
     (λ rest lines. ap (played number) lines))
 
-pub returns-in-Call : goal.returns-in-Call
-returns-in-Call g c =
+pub returns-in-Call-clause-prints : goal.returns-in-Call-clause-prints
+returns-in-Call-clause-prints g c =
     let number = c.loop-number.number in
     on_ok c.play_from.result _ _ c.play_from.ensures (λ prints.
     closes

@@ -1,0 +1,66 @@
+-- What a script prints shows a life that keeps the law of lives.
+use Rattle.std.specs.Prelude.{◌≡◌, ℕ, ◌+◌, ◌≤◌, min, List, [], ◌∷◌, ◌++◌, Result, Ok}
+use Rattle.snapshot.specs.Limits.{keys, most_records}
+use Rattle.snapshot.specs.declared.fault.EngineFault.{EngineFault}
+use Rattle.table_store.specs.Tables.{capacity_of, memory_check}
+use Rattle.lives.specs.Engines.{Engine}
+use Rattle.lives.specs.Lives.{NewStore, new_newest, new_table}
+use Rattle.lives.specs.declared.calls.Call.{Call}
+use Rattle.engine.specs.LivesOf.{Lived}
+use Rattle.engine.specs.declared.answer.Answer.{Answer}
+use Rattle.engine.specs.declared.answer.Answer.TheVariants as answer
+use Rattle.script.specs.Played.{checked, outcome_of, printed, said_in, told, told_bad}
+use Rattle.script.specs.Shown.{request_text, store_text}
+use Rattle.script.specs.declared.line.Line.{Line}
+use Rattle.script.specs.declared.line.Line.TheVariants as line
+use Rattle.script.specs.declared.line.StoreKind.TheVariants.{Newest, Table}
+
+-- the calls of lines, in order
+abbrev pub calls_in : List Line → List Call
+calls_in [] = []
+calls_in (line.Blank ∷ lines) = calls_in lines
+calls_in (line.Bad ∷ lines) = calls_in lines
+calls_in (line.Store kind ∷ lines) = calls_in lines
+calls_in (line.Call request ∷ lines) = request.call ∷ calls_in lines
+
+-- the text of lines, from the line of this number on, whose calls were answered so
+abbrev pub text_with : ℕ → List Line → List (Result Answer EngineFault) → List ℕ
+text_with number [] answers = []
+text_with number (line.Blank ∷ lines) answers = text_with (number + 1) lines answers
+text_with number (line.Bad ∷ lines) answers = told_bad number ++ text_with (number + 1) lines answers
+text_with number (line.Store kind ∷ lines) answers = told_bad number ++ text_with (number + 1) lines answers
+text_with number (line.Call request ∷ lines) [] = []
+text_with number (line.Call request ∷ lines) (a ∷ answers) =
+    told (request_text request) (outcome_of a) ++ text_with (number + 1) lines answers
+
+-- The text of lines that an engine over this new store plays: it shows their calls with the answers of a life that keeps the law.
+pub record ShowsLife (store : NewStore) (number : ℕ) (lines : List Line) (text : List ℕ) : Type 0 where
+  pub answers : List (Result Answer EngineFault)
+  pub shown : text ≡ text_with number lines answers
+  pub after : Engine
+  pub lived : Lived store (calls_in lines) answers after
+
+-- a text that begins so, and goes on as P says
+abbrev pub Begins : List ℕ → (List ℕ → Type 0) → List ℕ → Type 0
+Begins front P text = (rest : List ℕ) × (text ≡ front ++ rest) × P rest
+
+-- the same over a new table with so many records
+abbrev pub ShowsTableLife : ℕ → ℕ → List Line → List ℕ → Type 0
+ShowsTableLife records number lines text =
+    (room : keys ≤ capacity_of records) × ShowsLife (new_table (capacity_of records) room) number lines text
+
+-- The text of a script's lines: up to the first call or the store's line it tells of bad lines, and from there on it shows a life.
+abbrev pub ShowsLives : ℕ → List Line → List ℕ → Type 0
+ShowsLives number [] text = text ≡ []
+ShowsLives number (line.Blank ∷ lines) text = ShowsLives (number + 1) lines text
+ShowsLives number (line.Bad ∷ lines) text = Begins (told_bad number) (ShowsLives (number + 1) lines) text
+ShowsLives number (line.Store Newest ∷ lines) text =
+    Begins (told (store_text Newest) (Ok answer.Done)) (ShowsLife new_newest (number + 1) lines) text
+ShowsLives number (line.Store (Table records) ∷ lines) text =
+    let size = min records most_records in
+    Begins (told (store_text (Table records)) (checked (memory_check size))) (ShowsTableLife size (number + 1) lines) text
+ShowsLives number (line.Call request ∷ lines) text = ShowsTableLife most_records number (line.Call request ∷ lines) text
+
+-- what a script prints shows a life that keeps the law
+abbrev pub PrintsLife : List ℕ → Type 0
+PrintsLife script = ShowsLives 1 (said_in script) (printed script)
