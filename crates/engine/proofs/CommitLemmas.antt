@@ -27,10 +27,10 @@ use Rattle.lives.specs.declared.calls.Call.TheVariants as call
 use Rattle.lives.proofs.LifeProofs.{the_rules_lawful}
 use Rattle.engine.specs.ChainCalls.{on_open}
 use Rattle.engine.specs.Chains.{chain_of}
-use Rattle.engine.specs.Commits.{committing, handed_back, handed_over}
-use Rattle.engine.specs.Engines.{Lists, engine_of}
+use Rattle.engine.specs.Commits.{committing_leg, answer_and_lists, given_to_store}
+use Rattle.engine.specs.Engines.{CallersLists, engine_of}
 use Rattle.engine.specs.Legs.{open_leg_of}
-use Rattle.engine.specs.LivesOf.{InEveryLife}
+use Rattle.engine.specs.EngineLaw.{InEveryLife}
 use Rattle.engine.specs.Naming.{naming, leg_in_range}
 use Rattle.engine.specs.StepOf.{step_of}
 use Rattle.engine.specs.declared.chain.Chain.{Chain}
@@ -39,7 +39,7 @@ use Rattle.engine.specs.declared.leg.OpenLeg.{OpenLeg}
 use Rattle.engine.specs.declared.named.Named.{Named}
 use Rattle.engine.proofs.ChainSteps.{WithEngine}
 use Rattle.engine.proofs.EngineLemmas.{stands}
-use Rattle.engine.proofs.CommitStep.{HandedOver, commit_is_step, commit_made, handed_in}
+use Rattle.engine.proofs.CommitStep.{GivenToStore, commit_is_step, commit_made, account_made}
 
 -- The lists.
 
@@ -63,11 +63,11 @@ abbrev head_in : AccountHead → Result AccountHead EngineFault → AccountHead
 head_in h (Ok x) = x
 head_in h (Err f) = h
 
-pub handed_back_tells :
-    (rs : List ChainReading) (ws : List Write) (a : Account) (h : AccountHead) (lists : Lists) →
-    (Ok h, lists) ≡ handed_back rs ws (Ok a) → account_of h lists.0 lists.1 ≡ a
-handed_back_tells rs ws a h lists is =
-    let told : Result AccountHead EngineFault × Lists → Account = λ t. account_of (head_in h t.0) t.1.0 t.1.1 in
+pub lists_tell :
+    (rs : List ChainReading) (ws : List Write) (a : Account) (h : AccountHead) (lists : CallersLists) →
+    (Ok h, lists) ≡ answer_and_lists rs ws (Ok a) → account_of h lists.0 lists.1 ≡ a
+lists_tell rs ws a h lists is =
+    let told : Result AccountHead EngineFault × CallersLists → Account = λ t. account_of (head_in h t.0) t.1.0 t.1.1 in
     ap told is ∙ tells rs ws a
 
 -- the five numbers of an account that is told so
@@ -103,30 +103,30 @@ module _ (depth p l clock r w : ℕ) (rs : List ChainReading) (ws : List Write) 
   drawn = step_of depth (call.Commit p l clock r w) s
 
   -- a commit's answer, its caller's lists and an engine are those that the rules draw
-  abbrev pub Handed : Result AccountHead EngineFault → Lists → model.Engine → Type 0
-  Handed q lists t =
-      ◌≡◌ {A = (Result AccountHead EngineFault × Lists) × model.Engine} ((q, lists), t) (handed_back rs ws drawn.0, drawn.1)
+  abbrev pub IsDrawn : Result AccountHead EngineFault → CallersLists → model.Engine → Type 0
+  IsDrawn q lists t =
+      ◌≡◌ {A = (Result AccountHead EngineFault × CallersLists) × model.Engine} ((q, lists), t) (answer_and_lists rs ws drawn.0, drawn.1)
 
-  abbrev drawn_back : WithEngine Account → (Result AccountHead EngineFault × Lists) × model.Engine
-  drawn_back d = (handed_back rs ws d.0, d.1)
+  abbrev drawn_for_caller : WithEngine Account → (Result AccountHead EngineFault × CallersLists) × model.Engine
+  drawn_for_caller d = (answer_and_lists rs ws d.0, d.1)
 
   -- of a refused commit
   pub commit_refused :
       (t t' : model.Engine) (q : Result AccountHead EngineFault) (f f' : EngineFault) → t ≡ t' → q ≡ Err f → f ≡ f' →
-      ◌≡◌ {A = WithEngine Account} (Err f', t') drawn → Handed q (rs, ws) t
+      ◌≡◌ {A = WithEngine Account} (Err f', t') drawn → IsDrawn q (rs, ws) t
   commit_refused t t' q f f' left is same drawn_so =
-      let P : Result AccountHead EngineFault → (Result AccountHead EngineFault × Lists) × model.Engine = λ x. ((x, (rs, ws)), t) in
-      let Q : model.Engine → (Result AccountHead EngineFault × Lists) × model.Engine = λ u. ((Err f', (rs, ws)), u) in
-      ap P (is ∙ ap Err same) ∙ ap Q left ∙ ap drawn_back drawn_so
+      let P : Result AccountHead EngineFault → (Result AccountHead EngineFault × CallersLists) × model.Engine = λ x. ((x, (rs, ws)), t) in
+      let Q : model.Engine → (Result AccountHead EngineFault × CallersLists) × model.Engine = λ u. ((Err f', (rs, ws)), u) in
+      ap P (is ∙ ap Err same) ∙ ap Q left ∙ ap drawn_for_caller drawn_so
 
   -- of an accepted one
   pub commit_accepted :
-      (t t' : model.Engine) (q : Result AccountHead EngineFault) (lists : Lists) (a : Account) → t ≡ t' →
-      (q, lists) ≡ handed_back rs ws (Ok a) → ◌≡◌ {A = WithEngine Account} (Ok a, t') drawn → Handed q lists t
+      (t t' : model.Engine) (q : Result AccountHead EngineFault) (lists : CallersLists) (a : Account) → t ≡ t' →
+      (q, lists) ≡ answer_and_lists rs ws (Ok a) → ◌≡◌ {A = WithEngine Account} (Ok a, t') drawn → IsDrawn q lists t
   commit_accepted t t' q lists a left is drawn_so =
-      let P : Result AccountHead EngineFault × Lists → (Result AccountHead EngineFault × Lists) × model.Engine = λ x. (x, t) in
-      let Q : model.Engine → (Result AccountHead EngineFault × Lists) × model.Engine = λ u. (handed_back rs ws (Ok a), u) in
-      ap P is ∙ ap Q left ∙ ap drawn_back drawn_so
+      let P : Result AccountHead EngineFault × CallersLists → (Result AccountHead EngineFault × CallersLists) × model.Engine = λ x. (x, t) in
+      let Q : model.Engine → (Result AccountHead EngineFault × CallersLists) × model.Engine = λ u. (answer_and_lists rs ws (Ok a), u) in
+      ap P is ∙ ap Q left ∙ ap drawn_for_caller drawn_so
 
   -- The book takes the account, in every life that led to the engine.
 
@@ -136,20 +136,20 @@ module _ (depth p l clock r w : ℕ) (rs : List ChainReading) (ws : List Write) 
       let answer : answer_in (step the_rules store.depth c s) ≡ Ok a = ap (λ d. answer_in (step the_rules d c s)) of_depth ∙ is in
       ((the_rules_lawful.one_more_call store life s c led).commits.0 p l clock r w a (ap (event c) answer)).for_the_book
 
-  abbrev IsLawful : Lists → AccountHead → Type 0
+  abbrev IsLawful : CallersLists → AccountHead → Type 0
   IsLawful lists h = InEveryLife depth s (λ store life. lawful (account_of h lists.0 lists.1) ≡ true)
 
-  handed_lawful :
-      (q : Result AccountHead EngineFault) (lists : Lists) (d : Result Account EngineFault) → (q, lists) ≡ handed_back rs ws d →
+  answer_lawful :
+      (q : Result AccountHead EngineFault) (lists : CallersLists) (d : Result Account EngineFault) → (q, lists) ≡ answer_and_lists rs ws d →
       drawn.0 ≡ d → IfOk q (IsLawful lists)
-  handed_lawful (Ok h) lists (Ok a) is same =
-      λ store life of_depth led. ap lawful (handed_back_tells rs ws a h lists is) ∙ account_lawful a same store life of_depth led
-  handed_lawful (Ok h) lists (Err f) is same = not_both h f (ap (λ t. t.0) is)
-  handed_lawful (Err f) lists d is same = tt
+  answer_lawful (Ok h) lists (Ok a) is same =
+      λ store life of_depth led. ap lawful (lists_tell rs ws a h lists is) ∙ account_lawful a same store life of_depth led
+  answer_lawful (Ok h) lists (Err f) is same = not_both h f (ap (λ t. t.0) is)
+  answer_lawful (Err f) lists d is same = tt
 
   pub for_the_book :
-      (q : Result AccountHead EngineFault) (lists : Lists) (t : model.Engine) → Handed q lists t → IfOk q (IsLawful lists)
-  for_the_book q lists t handed = handed_lawful q lists drawn.0 (ap (λ x. x.0) handed) refl
+      (q : Result AccountHead EngineFault) (lists : CallersLists) (t : model.Engine) → IsDrawn q lists t → IfOk q (IsLawful lists)
+  for_the_book q lists t handed = answer_lawful q lists drawn.0 (ap (λ x. x.0) handed) refl
 
 -- The leg that commits.
 
@@ -176,7 +176,7 @@ there_is_room n r w c model.ended o e = absurd cc
 
 -- the lists have room for it
 pub has_room :
-    (n : Named) (r w : ℕ) (c : model.Chain) (o : model.OpenLeg) → committing n r w c ≡ Ok o →
+    (n : Named) (r w : ℕ) (c : model.Chain) (o : model.OpenLeg) → committing_leg n r w c ≡ Ok o →
     (nat_le (length c.readings) r && nat_le (length o.writes) w) ≡ true
 has_room n r w c o e = there_is_room n r w c (c.legs n.leg) o e
 
@@ -191,21 +191,21 @@ module _ {S : Type 0} (meaning : S → Meaning) (depth : ℕ) (e : Engine S) (n 
   of_call = step_of depth (call.Commit n.place n.leg clock r w) before
 
   decided :
-      commit_made depth n.place n.leg clock (chain_of chain) before (committing (naming n.place n.leg not_named) r w (chain_of chain))
+      commit_made depth n.place n.leg clock (chain_of chain) before (committing_leg (naming n.place n.leg not_named) r w (chain_of chain))
       ≡ of_call
   decided = commit_is_step depth n.place n.leg clock r w before (chain_of chain) range (stands meaning e n.place within (Some chain) here)
 
   -- which leg commits, if one does
   found :
       (q : Result OpenLeg EngineFault) (leg : Result model.OpenLeg EngineFault) →
-      result_map_both open_leg_of (λ f. f) q ≡ committing n r w (chain_of chain) → result_map_both open_leg_of (λ f. f) q ≡ leg →
-      leg ≡ committing (naming n.place n.leg not_named) r w (chain_of chain)
-  found q leg ensured known = sym known ∙ ensured ∙ ap (λ m. committing m r w (chain_of chain)) no_key
+      result_map_both open_leg_of (λ f. f) q ≡ committing_leg n r w (chain_of chain) → result_map_both open_leg_of (λ f. f) q ≡ leg →
+      leg ≡ committing_leg (naming n.place n.leg not_named) r w (chain_of chain)
+  found q leg ensured known = sym known ∙ ensured ∙ ap (λ m. committing_leg m r w (chain_of chain)) no_key
 
   -- none does
   pub none_commits :
       (q : Result OpenLeg EngineFault) (f : EngineFault) →
-      result_map_both open_leg_of (λ f. f) q ≡ committing n r w (chain_of chain) → q ≡ Err f →
+      result_map_both open_leg_of (λ f. f) q ≡ committing_leg n r w (chain_of chain) → q ≡ Err f →
       ◌≡◌ {A = WithEngine Account} (Err f, before) of_call
   none_commits q f ensured is =
       ap (commit_made depth n.place n.leg clock (chain_of chain) before)
@@ -215,15 +215,15 @@ module _ {S : Type 0} (meaning : S → Meaning) (depth : ℕ) (e : Engine S) (n 
   -- one does, and the store answers this
   pub one_commits :
       (q : Result OpenLeg EngineFault) (last : OpenLeg) →
-      result_map_both open_leg_of (λ f. f) q ≡ committing n r w (chain_of chain) → q ≡ Ok last → (written : List Write) →
+      result_map_both open_leg_of (λ f. f) q ≡ committing_leg n r w (chain_of chain) → q ≡ Ok last → (written : List Write) →
       written ≡ writes_of last.writes → (answer known : Result ℕ Fault) (store : Meaning) (notices : model.Notices) →
-      (answer, (store, notices)) ≡ handed_over depth clock written before.caches (before.store, before.notices) → answer ≡ known →
-      handed_in n.place n.leg (chain_of chain) (open_leg_of last) before (known, (store, notices)) ≡ of_call
+      (answer, (store, notices)) ≡ given_to_store depth clock written before.caches (before.store, before.notices) → answer ≡ known →
+      account_made n.place n.leg (chain_of chain) (open_leg_of last) before (known, (store, notices)) ≡ of_call
   one_commits q last ensured is written are answer known store notices handed is_known =
-      let In : HandedOver → WithEngine Account = handed_in n.place n.leg (chain_of chain) (open_leg_of last) before in
-      let With : Result ℕ Fault → HandedOver = λ x. (x, (store, notices)) in
+      let In : GivenToStore → WithEngine Account = account_made n.place n.leg (chain_of chain) (open_leg_of last) before in
+      let With : Result ℕ Fault → GivenToStore = λ x. (x, (store, notices)) in
       ap In
-      (ap With (sym is_known) ∙ handed ∙ ap (λ xs. handed_over depth clock xs before.caches (before.store, before.notices)) are)
+      (ap With (sym is_known) ∙ handed ∙ ap (λ xs. given_to_store depth clock xs before.caches (before.store, before.notices)) are)
       ∙ ap (commit_made depth n.place n.leg clock (chain_of chain) before)
       (found q (Ok (open_leg_of last)) ensured (ap (result_map_both open_leg_of (λ f. f)) is))
       ∙ decided

@@ -11,7 +11,7 @@ use Rattle.lives.specs.Engines.{OpenLeg, Chain, Notices, Engine, with_place, wit
 use Rattle.lives.specs.Rules.{the_rules}
 use Rattle.lives.specs.Steps.{Outcome, account_for, handed_to_store}
 use Rattle.lives.specs.declared.calls.Call.TheVariants as call
-use Rattle.engine.specs.Commits.{committing, handed_over}
+use Rattle.engine.specs.Commits.{committing_leg, given_to_store}
 use Rattle.engine.specs.Legs.{on_result}
 use Rattle.engine.specs.StepOf.{outcome_of, step_of}
 use Rattle.engine.specs.Naming.{naming}
@@ -19,12 +19,12 @@ use Rattle.engine.proofs.ChainSteps.{WithEngine}
 use Rattle.engine.proofs.BothSides.{both_check, both_open, both_result, where_passed, where_leg}
 
 -- what the store and the notices became
-abbrev pub HandedOver : Type 0
-HandedOver = Result ℕ Fault × (Meaning × Notices)
+abbrev pub GivenToStore : Type 0
+GivenToStore = Result ℕ Fault × (Meaning × Notices)
 
 -- the account, and the engine with its place free, where the store took the writes
-abbrev pub handed_in : ℕ → ℕ → Chain → OpenLeg → Engine → HandedOver → WithEngine Account
-handed_in p l c leg s handed =
+abbrev pub account_made : ℕ → ℕ → Chain → OpenLeg → Engine → GivenToStore → WithEngine Account
+account_made p l c leg s handed =
     on_result handed.0
     (λ f. (Err (around_store f p l not_named), s))
     (λ t. (Ok (account_for c leg t), with_place p None (with_store handed.1.0 (with_notices handed.1.1 s))))
@@ -33,24 +33,24 @@ handed_in p l c leg s handed =
 abbrev pub commit_made : ℕ → ℕ → ℕ → ℕ → Chain → Engine → Result OpenLeg EngineFault → WithEngine Account
 commit_made depth p l clock c s leg =
     on_result leg (λ f. (Err f, s)) (λ o.
-    handed_in p l c o s (handed_over depth clock o.writes s.caches (s.store, s.notices)))
+    account_made p l c o s (given_to_store depth clock o.writes s.caches (s.store, s.notices)))
 
 handed :
     (depth p l clock : ℕ) (c : Chain) (leg : OpenLeg) (ws : List Write) (s : Engine) →
-    handed_in p l c leg s (handed_over depth clock ws s.caches (s.store, s.notices))
+    account_made p l c leg s (given_to_store depth clock ws s.caches (s.store, s.notices))
     ≡ outcome_of s (handed_to_store the_rules depth p l clock c leg ws s)
 handed depth p l clock c leg [] s = refl
 handed depth p l clock c leg (w ∷ ws) s =
     let P : WithEngine Account → Outcome Account → Type 0 = λ made o. made ≡ outcome_of s o in
-    both_result P (handed_in p l c leg s) (commit_answer depth clock (w ∷ ws) s.store) _ _ _ _ (λ f. refl) (λ t. refl)
+    both_result P (account_made p l c leg s) (commit_answer depth clock (w ∷ ws) s.store) _ _ _ _ (λ f. refl) (λ t. refl)
 
 pub commit_is_step :
     (depth p l clock r w : ℕ) (s : Engine) (c : Chain) → (is_place p && is_leg l) ≡ true → s.places p ≡ Some c →
-    commit_made depth p l clock c s (committing (naming p l not_named) r w c) ≡ step_of depth (call.Commit p l clock r w) s
+    commit_made depth p l clock c s (committing_leg (naming p l not_named) r w c) ≡ step_of depth (call.Commit p l clock r w) s
 commit_is_step depth p l clock r w s c range here =
     let of : Result OpenLeg EngineFault → WithEngine Account = commit_made depth p l clock c s in
     let P : Result OpenLeg EngineFault → Outcome Account → Type 0 = λ leg o. of leg ≡ outcome_of s o in
-    let leg : Result OpenLeg EngineFault = committing (naming p l not_named) r w c in
+    let leg : Result OpenLeg EngineFault = committing_leg (naming p l not_named) r w c in
     where_passed (P leg) _ _ _ range
     (where_leg (P leg) _ l _ _ c here
     (both_open P (c.legs l) _ _ _ _ refl (λ o.

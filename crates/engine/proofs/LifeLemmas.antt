@@ -10,8 +10,8 @@ use Rattle.lives.specs.Rules.{the_rules}
 use Rattle.lives.specs.Steps.{answer_in, engine_in, step}
 use Rattle.lives.specs.declared.calls.Call.{Call}
 use Rattle.lives.proofs.LifeProofs.{the_rules_lawful}
-use Rattle.engine.specs.LivesOf.{InEveryLife, GoesOn, answered_in, Lived, OverNewStore, RunKeepsLaw}
-use Rattle.engine.specs.Performing.{after_calls, answers_to, performed}
+use Rattle.engine.specs.EngineLaw.{InEveryLife, GoesOn, answered_in, Lived, OverNewStore, RunKeepsLaw}
+use Rattle.engine.specs.Performing.{after_calls, answers_of, performed}
 use Rattle.engine.specs.declared.answer.Answer.{Answer}
 
 -- A new engine.
@@ -57,19 +57,19 @@ module _ (store : NewStore) where
   answers_of_life :
       (calls : List Call) (s : Engine) (before : Life) →
       reverse (map answered_in (life_from the_rules store s before calls))
-      ≡ reverse (map answered_in before) ++ answers_to store.depth calls s
+      ≡ reverse (map answered_in before) ++ answers_of store.depth calls s
   answers_of_life [] s before = sym (append-nil (reverse (map answered_in before)))
   answers_of_life (c ∷ cs) s before =
       let o = step the_rules store.depth c s in
       let e = event c (answer_in o) in
-      let rest = answers_to store.depth cs (engine_in s o) in
+      let rest = answers_of store.depth cs (engine_in s o) in
       answers_of_life cs (engine_in s o) (e ∷ before)
       ∙ ap (λ xs. xs ++ rest) (reverse-append (answered_in e ∷ []) (map answered_in before))
       ∙ append_assoc (reverse (map answered_in before)) (answered_in e ∷ []) rest
 
   lived :
       (calls : List Call) (after : Engine) → after ≡ after_calls store.depth calls (new_engine (new_store store.capacity)) →
-      Lived store calls (answers_to store.depth calls (new_engine (new_store store.capacity))) after
+      Lived store calls (answers_of store.depth calls (new_engine (new_store store.capacity))) after
   lived calls after is =
       let law = the_rules_lawful.by_calls store calls in
       record {
@@ -85,7 +85,7 @@ pub run_keeps_law :
     (depth : ℕ) (calls : List Call) (m : Meaning) (after : Engine) → after ≡ after_calls depth calls (new_engine m) →
     RunKeepsLaw depth calls m after
 run_keeps_law depth calls m after is store of_depth new =
-    let P : ℕ → Meaning → Type 0 = λ d n. Lived store calls (answers_to d calls (new_engine n)) after in
+    let P : ℕ → Meaning → Type 0 = λ d n. Lived store calls (answers_of d calls (new_engine n)) after in
     let Q : ℕ → Meaning → Type 0 = λ d n. after ≡ after_calls d calls (new_engine n) in
     let same : Q store.depth (new_store store.capacity) =
     subst (λ d. Q d (new_store store.capacity)) (sym of_depth) (subst (Q depth) new is) in

@@ -19,8 +19,8 @@ use Rattle.engine.specs.Legs.{on_result}
 use Rattle.engine.specs.declared.named.Named.{Named}
 
 -- the leg that commits: it is the only open one, and lists of lengths r and w have room for the chain's readings and its writes
-abbrev pub committing : Named → ℕ → ℕ → Chain → Result OpenLeg EngineFault
-committing n r w c =
+abbrev pub committing_leg : Named → ℕ → ℕ → Chain → Result OpenLeg EngineFault
+committing_leg n r w c =
     let no = chain_fault n.place n.leg n.key in
     on_open (c.legs n.leg) (Err (no NotOpen)) (λ leg.
     if only_open n.leg c.legs legs
@@ -28,15 +28,15 @@ committing n r w c =
     else Err (no AnotherLegOpen))
 
 -- the store takes the writes, and their notices are raised; with no writes the store is not asked, and the answer is 0
-abbrev pub handed_over : ℕ → ℕ → List Write → (ℕ → Cache) → Meaning × Notices → Result ℕ Fault × (Meaning × Notices)
-handed_over depth clock [] caches before = (Ok 0, before)
-handed_over depth clock (w ∷ ws) caches before =
+abbrev pub given_to_store : ℕ → ℕ → List Write → (ℕ → Cache) → Meaning × Notices → Result ℕ Fault × (Meaning × Notices)
+given_to_store depth clock [] caches before = (Ok 0, before)
+given_to_store depth clock (w ∷ ws) caches before =
     on_result (commit_answer depth clock (w ∷ ws) before.0) (λ f. (Err f, before)) (λ t.
     (Ok t, (with_writes depth t (w ∷ ws) before.0, raise_all (λ k c. holds k c) caches t (w ∷ ws) before.1)))
 
 -- what a commit answers, and its caller's two lists afterwards: the five numbers of the account, and its readings and its writes
 -- at the starts of the lists, whose rest stays; a refused commit leaves both lists as they were
-abbrev pub handed_back :
+abbrev pub answer_and_lists :
     List ChainReading → List Write → Result Account EngineFault → Result AccountHead EngineFault × (List ChainReading × List Write)
-handed_back rs ws (Ok a) = (Ok (head_of a), (overwritten a.readings rs, overwritten a.writes ws))
-handed_back rs ws (Err f) = (Err f, (rs, ws))
+answer_and_lists rs ws (Ok a) = (Ok (head_of a), (overwritten a.readings rs, overwritten a.writes ws))
+answer_and_lists rs ws (Err f) = (Err f, (rs, ws))

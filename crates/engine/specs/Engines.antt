@@ -14,7 +14,7 @@ use Rattle.lives.specs.Steps.{AnswerTo}
 use Rattle.lives.specs.declared.calls.Call.{Call}
 use Rattle.lives.specs.declared.calls.Call.TheVariants as call
 use Rattle.engine.specs.Chains.{chain_of}
-use Rattle.engine.specs.Commits.{handed_back}
+use Rattle.engine.specs.Commits.{answer_and_lists}
 use Rattle.engine.specs.StepOf.{step_of}
 use Rattle.engine.specs.declared.engine.Engine.{Engine}
 
@@ -37,16 +37,16 @@ IsStep meaning depth c before answer after =
     (step_of depth c (engine_of meaning before))
 
 -- the two lists of a commit's caller
-abbrev pub Lists : Type 0
-Lists = List ChainReading × List Write
+abbrev pub CallersLists : Type 0
+CallersLists = List ChainReading × List Write
 
 -- what a commit answers, its caller's two lists and the engine after are those that the rules draw from the numbers that it names,
 -- the room in the lists, the lists and the engine before
 abbrev pub IsCommit :
-    {S : Type 0} → (S → Meaning) → (depth place leg clock r w : ℕ) → Engine S → Lists → Result AccountHead EngineFault → Lists →
+    {S : Type 0} → (S → Meaning) → (depth place leg clock r w : ℕ) → Engine S → CallersLists → Result AccountHead EngineFault → CallersLists →
     Engine S → Type 0
 IsCommit meaning depth place leg clock r w before lists answer lists_after after =
     let drawn = step_of depth (call.Commit place leg clock r w) (engine_of meaning before) in
-    ◌≡◌ {A = (Result AccountHead EngineFault × Lists) × model.Engine}
+    ◌≡◌ {A = (Result AccountHead EngineFault × CallersLists) × model.Engine}
     ((answer, lists_after), engine_of meaning after)
-    (handed_back lists.0 lists.1 drawn.0, drawn.1)
+    (answer_and_lists lists.0 lists.1 drawn.0, drawn.1)

@@ -6,5 +6,5 @@ pub mod ChainCalls
 pub mod Commits
 pub mod StepOf
 pub mod Engines
-pub mod LivesOf
+pub mod EngineLaw
 pub mod Performing

@@ -34,9 +34,9 @@ abbrev pub performed : ℕ → Call → Engine → Result Answer EngineFault × 
 performed depth c s = let drawn = step_of depth c s in (shown_of c drawn.0, drawn.1)
 
 -- the answers to a list of calls, and the engine after them
-abbrev pub answers_to : ℕ → List Call → Engine → List (Result Answer EngineFault)
-answers_to depth [] s = []
-answers_to depth (c ∷ cs) s = let now = performed depth c s in now.0 ∷ answers_to depth cs now.1
+abbrev pub answers_of : ℕ → List Call → Engine → List (Result Answer EngineFault)
+answers_of depth [] s = []
+answers_of depth (c ∷ cs) s = let now = performed depth c s in now.0 ∷ answers_of depth cs now.1
 
 abbrev pub after_calls : ℕ → List Call → Engine → Engine
 after_calls depth [] s = s

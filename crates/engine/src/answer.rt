@@ -8,13 +8,13 @@ use std::marker::Model;
 
 // The account of a committed chain, with memory of its own.
 #[derive(Drop)]
-pub struct Committed {
+pub struct CommittedAccount {
     pub(crate) head: AccountHead,
     pub(crate) readings: [ChainReading; CHAIN_READINGS],
     pub(crate) writes: [Write; WRITE_KEYS],
 }
 
-impl Model for Committed {
+impl Model for CommittedAccount {
     ghost use Rattle.std.specs.Prelude.{◌≤◌, length};
     ghost use Rattle.snapshot.specs.Accounts.{Account, account_of};
 
@@ -25,7 +25,7 @@ impl Model for Committed {
     ghost invariant = { λ c. (c.head.readings ≤ length c.readings) × (c.head.writes ≤ length c.writes) };
 }
 
-impl Committed {
+impl CommittedAccount {
     // The five numbers.
     pub fn head(&self) -> AccountHead
         ensures { result ≡ head_of self.now }
@@ -58,6 +58,6 @@ pub enum Answer {
     Legs(u8, u8),
     Value(u32),
     Count(usize, u64),
-    Account(Committed),
+    Account(CommittedAccount),
     Done,
 }

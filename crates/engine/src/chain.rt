@@ -8,7 +8,7 @@ ghost use Rattle.engine_parts.specs.Lists.{entries};
 ghost use Rattle.engine_parts.specs.Caches.{cache_of, caches_of};
 ghost use Rattle.engine.specs.ChainCalls.{after_hand, after_fork, after_join, after_write, further_reading, after_read};
 ghost use Rattle.engine.specs.Chains.{chain_of};
-ghost use Rattle.engine.specs.Commits.{committing, handed_back};
+ghost use Rattle.engine.specs.Commits.{committing_leg, answer_and_lists};
 ghost use Rattle.lives.specs.Steps.{account_for, only_open};
 ghost use Rattle.snapshot.specs.Overwriting.{overwritten};
 ghost use Rattle.engine.specs.Legs.{open_leg_of, open_in, after_call};
@@ -203,8 +203,9 @@ impl Chain {
     }
 
     // The leg that commits: the only one that is open, where there is room for the chain's readings and for the leg's writes.
-    pub(crate) fn committing(&self, named: Named, room: Room) -> Result<OpenLeg, EngineFault>
-        ensures value { result_map_both open_leg_of (λ f. f) result ≡ committing named room.readings room.writes (chain_of self.now) }
+    // Refused, in this order: 3 that leg is not open, 9 another leg is open, 10 there is too little room.
+    pub(crate) fn committing_leg(&self, named: Named, room: Room) -> Result<OpenLeg, EngineFault>
+        ensures value { result_map_both open_leg_of (λ f. f) result ≡ committing_leg named room.readings room.writes (chain_of self.now) }
         ensures few { OnOk result (length (chain_of self.now).readings ≤ chain_readings) }
     {
         let Some(open) = self.open_leg(named.leg) else {
@@ -241,7 +242,7 @@ impl Chain {
     ) -> AccountHead
         requires readings_fit { length (chain_of self.now).readings ≤ length readings.old }
         requires writes_fit { length (open_leg_of leg.now).writes ≤ length writes.old }
-        ensures { (Ok result, (readings.new, writes.new)) ≡ handed_back readings.old writes.old (Ok (account_for (chain_of self.now) (open_leg_of leg.now) timestamp)) }
+        ensures { (Ok result, (readings.new, writes.new)) ≡ answer_and_lists readings.old writes.old (Ok (account_for (chain_of self.now) (open_leg_of leg.now) timestamp)) }
     {
         let written = leg.writes.as_slice();
         writes[..written.len()].copy_from_slice(written);
@@ -260,8 +261,8 @@ impl Chain {
         ensures filled { list.new ≡ overwritten (map (λ r. r.made) (chain_of self.now).readings) list.old }
     {
         let readings = self.readings.as_slice();
-        for (place, held) in readings.iter().enumerate() {
-            list[place] = held.made;
+        for (position, held) in readings.iter().enumerate() {
+            list[position] = held.made;
         }
         readings.len()
     }

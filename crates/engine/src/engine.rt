@@ -1,7 +1,7 @@
 // The engine and its calls. A refused call answers its fault and leaves the engine as it was.
 ghost use Rattle.std.specs.Prelude.{◌≡◌, ◌≤◌, min, true, [], length, Ok, IfOk, OnErr};
 ghost use Rattle.snapshot.specs.Accounts.{account_of, lawful};
-ghost use Rattle.engine.specs.LivesOf.{InEveryLife, OverNewStore};
+ghost use Rattle.engine.specs.EngineLaw.{InEveryLife, OverNewStore};
 ghost use Rattle.lives.specs.Law.{LedTo};
 ghost use Rattle.lives.specs.Rules.{the_rules};
 ghost use Rattle.snapshot.specs.Limits.{chain_readings, write_keys};
@@ -14,7 +14,7 @@ ghost use Rattle.lives.specs.Engines as model;
 ghost use Rattle.lives.specs.Updates.{with_at};
 ghost use Rattle.lives.specs.declared.calls.Call.TheVariants as call;
 ghost use Rattle.engine_parts.specs.Caches.{caches_of};
-ghost use Rattle.engine.specs.Commits.{handed_over};
+ghost use Rattle.engine.specs.Commits.{given_to_store};
 ghost use Rattle.engine_parts.specs.WaitingNotices.{notices_of};
 ghost use Rattle.engine.specs.Engines.{engine_of, IsStep, IsCommit};
 
@@ -184,12 +184,12 @@ impl<S: Store> Engine<S> {
             readings: readings.len(),
             writes: writes.len(),
         };
-        self.commit_within(Named::leg(place, leg), clock, room, readings, writes)
+        self.commit_into(Named::leg(place, leg), clock, room, readings, writes)
     }
 
-    // Commits into lists that count as so long: they may be shorter only where they have the 32 or the 8 entries beyond which
-    // no account goes.
-    pub(crate) fn commit_within(
+    // Commits into two lists, each of which counts as having as much room as `room` says. A list may be shorter than that if it
+    // has 32 readings or 8 writes, the most that an account has.
+    pub(crate) fn commit_into(
         &mut self,
         named: Named,
         clock: u64,
@@ -209,16 +209,16 @@ impl<S: Store> Engine<S> {
         let Some(chain) = &self.places[named.place as usize] else {
             return Err(named.refused(Refusal::NotOpen));
         };
-        let last = chain.committing(named, room)?;
-        match hand_over(
+        let leg = chain.committing_leg(named, room)?;
+        match give_to_store(
             &mut self.store,
             &mut self.notices,
             &self.caches,
             clock,
-            last.writes.as_slice(),
+            leg.writes.as_slice(),
         ) {
             Ok(timestamp) => {
-                let head = chain.account(&last, timestamp, readings, writes);
+                let head = chain.account(&leg, timestamp, readings, writes);
                 self.places[named.place as usize] = None;
                 Ok(head)
             }
@@ -283,16 +283,16 @@ impl<S: Store> Engine<S> {
 
 // The store takes the writes of a commit, and their notices are raised; answers their timestamp. Without writes the store is
 // not asked, and the answer is 0.
-fn hand_over<S: Store>(
+fn give_to_store<S: Store>(
     store: &mut S,
     notices: &mut Notices,
     caches: &[Cache; CACHES],
     clock: u64,
     writes: &[Write],
 ) -> Result<u64, Fault>
-    ensures made { (result, (S.Reads.meaning store.new, notices_of notices.new)) ≡ handed_over S.Store.depth clock writes.now (caches_of caches.now) (S.Reads.meaning store.old, notices_of notices.old) }
+    ensures made { (result, (S.Reads.meaning store.new, notices_of notices.new)) ≡ given_to_store S.Store.depth clock writes.now (caches_of caches.now) (S.Reads.meaning store.old, notices_of notices.old) }
     ensures store_unchanged { OnErr result (store.new ≡ store.old) }
-    ensures unchanged { OnErr result (notices.new ≡ notices.old) }
+    ensures notices_unchanged { OnErr result (notices.new ≡ notices.old) }
 {
     if writes.is_empty() {
         return Ok(0);

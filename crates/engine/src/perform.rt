@@ -2,10 +2,10 @@
 ghost use Rattle.std.specs.Prelude.{◌≡◌, OnErr};
 ghost use Rattle.lives.specs.declared.calls.Call.TheVariants as call;
 ghost use Rattle.engine.specs.Engines.{engine_of, IsStep};
-ghost use Rattle.engine.specs.LivesOf.{GoesOn, InEveryLife};
+ghost use Rattle.engine.specs.EngineLaw.{GoesOn, InEveryLife};
 ghost use Rattle.engine.specs.Performing.{performed};
 
-use crate::answer::{Answer, Committed};
+use crate::answer::{Answer, CommittedAccount};
 use crate::chain::Room;
 use crate::engine::Engine;
 use crate::named::Named;
@@ -65,7 +65,7 @@ impl<S: Store> Engine<S> {
                 readings_room,
                 writes_room,
             } => self
-                .commit_with_room(place, leg, clock, readings_room, writes_room)
+                .commit_as_value(place, leg, clock, readings_room, writes_room)
                 .map(Answer::Account),
             Call::Abandon { place } => self.abandon(place).and(Ok(Answer::Done)),
             Call::Deliver { position } => self.deliver(position).and(Ok(Answer::Done)),
@@ -82,14 +82,14 @@ impl<S: Store> Engine<S> {
     }
 
     // Commits as into lists of these lengths, into the account's own memory.
-    fn commit_with_room(
+    fn commit_as_value(
         &mut self,
         place: u8,
         leg: u8,
         clock: u64,
         readings_room: usize,
         writes_room: usize,
-    ) -> Result<Committed, EngineFault>
+    ) -> Result<CommittedAccount, EngineFault>
         ensures step { IsStep S.Reads.meaning S.Store.depth (call.Commit place leg clock readings_room writes_room) self.old result self.new }
         ensures unchanged { OnErr result (self.new ≡ self.old) }
     {
@@ -100,8 +100,8 @@ impl<S: Store> Engine<S> {
             writes: writes_room,
         };
         let named = Named::leg(place, leg);
-        let head = self.commit_within(named, clock, room, &mut readings, &mut writes)?;
-        Ok(Committed {
+        let head = self.commit_into(named, clock, room, &mut readings, &mut writes)?;
+        Ok(CommittedAccount {
             head,
             readings,
             writes,

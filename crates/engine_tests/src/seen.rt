@@ -110,7 +110,7 @@ pub enum Seen {
     Legs(u8, u8),
     Value(u32),
     Notices(usize, u64),
-    Committed(AccountHead),
+    CommittedAccount(AccountHead),
     Done,
     Refused(EngineFault),
 }
@@ -122,7 +122,7 @@ pub fn seen_of(answer: &Result<Answer, EngineFault>) -> Seen {
         Ok(Answer::Legs(first, second)) => Seen::Legs(*first, *second),
         Ok(Answer::Value(value)) => Seen::Value(*value),
         Ok(Answer::Count(waiting, lost)) => Seen::Notices(*waiting, *lost),
-        Ok(Answer::Account(committed)) => Seen::Committed(committed.head()),
+        Ok(Answer::Account(committed)) => Seen::CommittedAccount(committed.head()),
         Ok(Answer::Done) => Seen::Done,
         Err(fault) => Seen::Refused(*fault),
     }
@@ -130,7 +130,7 @@ pub fn seen_of(answer: &Result<Answer, EngineFault>) -> Seen {
 
 // The answer of a commit: low and high of the account's interval, its timestamp, and how many readings and writes it has.
 pub fn committed(low: u64, high: u64, timestamp: u64, readings: usize, writes: usize) -> Seen {
-    Seen::Committed(AccountHead {
+    Seen::CommittedAccount(AccountHead {
         interval: Interval { low, high },
         timestamp,
         readings,

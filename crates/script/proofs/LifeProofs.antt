@@ -6,7 +6,7 @@ use Rattle.store.specs.Meaning.{new_store}
 use Rattle.table_store.specs.Tables.{capacity_of, is_table_size}
 use Rattle.lives.specs.Engines.{Engine, new_engine}
 use Rattle.lives.specs.Lives.{NewStore, new_newest, new_table}
-use Rattle.engine.specs.Performing.{after_calls, answers_to, performed}
+use Rattle.engine.specs.Performing.{after_calls, answers_of, performed}
 use Rattle.engine.proofs.LifeLemmas.{run_keeps_law}
 use Rattle.script.specs.Played.{outcome_of, played, played_on, said_in, told, told_bad}
 use Rattle.script.specs.ScriptLives.{PrintsLife, ShowsLife, ShowsLives, ShowsTableLife, calls_in, text_with}
@@ -17,7 +17,7 @@ use Rattle.script.specs.declared.line.StoreKind.TheVariants.{Newest, Table}
 
 text_is :
     (depth : ℕ) (s : Engine) (number : ℕ) (lines : List Line) →
-    played_on depth s number lines ≡ text_with number lines (answers_to depth (calls_in lines) s)
+    played_on depth s number lines ≡ text_with number lines (answers_of depth (calls_in lines) s)
 text_is depth s number [] = refl
 text_is depth s number (line.Blank ∷ lines) = text_is depth s (number + 1) lines
 text_is depth s number (line.Bad ∷ lines) = ap (λ t. told_bad number ++ t) (text_is depth s (number + 1) lines)
@@ -32,7 +32,7 @@ shows_life :
 shows_life store number lines =
     let s : Engine = new_engine (new_store store.capacity) in
     record {
-      answers = answers_to store.depth (calls_in lines) s;
+      answers = answers_of store.depth (calls_in lines) s;
       shown = text_is store.depth s number lines;
       after = after_calls store.depth (calls_in lines) s;
       lived = run_keeps_law store.depth (calls_in lines) (new_store store.capacity) _ refl store refl refl;

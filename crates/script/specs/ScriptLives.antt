@@ -6,7 +6,7 @@ use Rattle.table_store.specs.Tables.{capacity_of, memory_check}
 use Rattle.lives.specs.Engines.{Engine}
 use Rattle.lives.specs.Lives.{NewStore, new_newest, new_table}
 use Rattle.lives.specs.declared.calls.Call.{Call}
-use Rattle.engine.specs.LivesOf.{Lived}
+use Rattle.engine.specs.EngineLaw.{Lived}
 use Rattle.engine.specs.declared.answer.Answer.{Answer}
 use Rattle.engine.specs.declared.answer.Answer.TheVariants as answer
 use Rattle.script.specs.Played.{checked, outcome_of, printed, said_in, told, told_bad}

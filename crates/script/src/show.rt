@@ -9,7 +9,7 @@ ghost use Rattle.script.specs.Shown as spec;
 
 use crate::line::{Request, StoreKind};
 use book::account::Account;
-use engine::answer::{Answer, Committed};
+use engine::answer::{Answer, CommittedAccount};
 use lives::calls::Call;
 use snapshot::account::{AccountHead, ChainReading, Reading, Write};
 use snapshot::fault::{Fault, Layer};
@@ -100,7 +100,7 @@ impl fmt::Display for Outcome {
 }
 
 // The committed chain's account, as the book has it.
-fn account_of(committed: &Committed) -> Account<'_>
+fn account_of(committed: &CommittedAccount) -> Account<'_>
     ensures { told result ≡ committed.now }
 {
     let head = committed.head();

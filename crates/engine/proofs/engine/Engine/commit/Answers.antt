@@ -8,4 +8,4 @@ returns-clause-lawful g c =
     let rs = c.args.readings.now in
     let ws = c.args.writes.now in
     for_the_book g.S.Store.depth c.leg.result.place c.leg.result.leg c.args.clock (length rs) (length ws) rs ws
-    (engine_of g.S.Reads.meaning c.args.self.now) _ _ _ c.commit_within.ensures.step
+    (engine_of g.S.Reads.meaning c.args.self.now) _ _ _ c.commit_into.ensures.step

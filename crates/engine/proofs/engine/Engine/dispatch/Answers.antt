@@ -54,7 +54,7 @@ returns-in-Discard-clause-step g c =
 
 pub returns-in-Commit-clause-step : goal.returns-in-Commit-clause-step
 returns-in-Commit-clause-step g c =
-    performs g.S.Store.depth c.args.call (call.Commit c.in-Commit.place c.in-Commit.leg c.in-Commit.clock c.in-Commit.readings_room c.in-Commit.writes_room) _ _ _ _ c.in-Commit.is (shows (call.Commit c.in-Commit.place c.in-Commit.leg c.in-Commit.clock c.in-Commit.readings_room c.in-Commit.writes_room) _ _ c.map-in-Commit.ensures.cases) c.commit_with_room.ensures.step
+    performs g.S.Store.depth c.args.call (call.Commit c.in-Commit.place c.in-Commit.leg c.in-Commit.clock c.in-Commit.readings_room c.in-Commit.writes_room) _ _ _ _ c.in-Commit.is (shows (call.Commit c.in-Commit.place c.in-Commit.leg c.in-Commit.clock c.in-Commit.readings_room c.in-Commit.writes_room) _ _ c.map-in-Commit.ensures.cases) c.commit_as_value.ensures.step
 
 pub returns-in-Count-clause-step : goal.returns-in-Count-clause-step
 returns-in-Count-clause-step g c =

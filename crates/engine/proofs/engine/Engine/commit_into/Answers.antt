@@ -12,7 +12,7 @@ use Rattle.engine.specs.Naming.{leg_in_range}
 use Rattle.engine.specs.declared.chain.Chain.{Chain}
 use Rattle.engine.proofs.CommitLemmas.{commit_accepted, commit_refused, committed, has_room, none_commits, one_commits}
 use Rattle.engine.proofs.EngineLemmas.{failed, passed, left, refused_out, refused_missing}
-use Rattle.engine.proofs.engine.Engine.commit_within.Goals as goal
+use Rattle.engine.proofs.engine.Engine.commit_into.Goals as goal
 
 pub returns-in_err-check_leg-clause-step : goal.returns-in_err-check_leg-clause-step
 returns-in_err-check_leg-clause-step g c =
@@ -33,28 +33,28 @@ returns-in_default-clause-step g c =
     (refused_missing g.S.Reads.meaning e p within _ _ _ _ _ _
     (c.refused.ensures ∙ ap (λ n. chain_fault n.place n.leg n.key NotOpen) c.requires.no_key) (grind (arith, nat_tests)) c.in_default.is)
 
-pub returns-in_err-last-clause-step : goal.returns-in_err-last-clause-step
-returns-in_err-last-clause-step g c =
+pub returns-in_err-leg-clause-step : goal.returns-in_err-leg-clause-step
+returns-in_err-leg-clause-step g c =
     let e = c.args.self.now in
     let n = c.args.named in
     let m = g.S.Reads.meaning in
     let depth = g.S.Store.depth in
     let range = passed leg_in_range n n _ _ refl c.check_leg.ensures c.in_ok-check_leg.was in
     let within : n.place < length e.places = grind (arith, nat_tests) in
-    let exit = err_from_is_err_and c.from_residual-in_err-last.result c.from_residual-in_err-last.ensures.1 in
+    let exit = err_from_is_err_and c.from_residual-in_err-leg.result c.from_residual-in_err-leg.ensures.1 in
     commit_refused depth n.place n.leg c.args.clock c.args.room.readings c.args.room.writes c.args.readings.now c.args.writes.now
     (engine_of m e) _ (engine_of m e) _ _ _ (left m e n.place within) exit.1 exit.2
     (none_commits m depth e n c.args.clock c.args.room.readings c.args.room.writes c.in-Some.chain c.requires.no_key range within
-    c.in-Some.is _ _ c.committing.ensures.value c.in_err-last.was)
+    c.in-Some.is _ _ c.committing_leg.ensures.value c.in_err-leg.was)
 
 pub account-head-requires-clause-readings_fit : goal.account-head-requires-clause-readings_fit
 account-head-requires-clause-readings_fit g c =
-    let room = has_room c.args.named _ _ (chain_of c.in-Some.chain) (open_leg_of c.in_ok-last.last) (sym c.committing.ensures.value ∙ ap (result_map_both open_leg_of (λ f. f)) c.in_ok-last.was) in
+    let room = has_room c.args.named _ _ (chain_of c.in-Some.chain) (open_leg_of c.in_ok-leg.leg) (sym c.committing_leg.ensures.value ∙ ap (result_map_both open_leg_of (λ f. f)) c.in_ok-leg.was) in
     grind (arith, nat_tests)
 
 pub account-head-requires-clause-writes_fit : goal.account-head-requires-clause-writes_fit
 account-head-requires-clause-writes_fit g c =
-    let room = has_room c.args.named _ _ (chain_of c.in-Some.chain) (open_leg_of c.in_ok-last.last) (sym c.committing.ensures.value ∙ ap (result_map_both open_leg_of (λ f. f)) c.in_ok-last.was) in
+    let room = has_room c.args.named _ _ (chain_of c.in-Some.chain) (open_leg_of c.in_ok-leg.leg) (sym c.committing_leg.ensures.value ∙ ap (result_map_both open_leg_of (λ f. f)) c.in_ok-leg.was) in
     grind (arith, nat_tests)
 
 pub returns-in-Ok-clause-step : goal.returns-in-Ok-clause-step
@@ -66,10 +66,10 @@ returns-in-Ok-clause-step g c =
     let range = passed leg_in_range n n _ _ refl c.check_leg.ensures c.in_ok-check_leg.was in
     let within : n.place < length e.places = grind (arith, nat_tests) in
     commit_accepted depth n.place n.leg c.args.clock c.args.room.readings c.args.room.writes c.args.readings.now c.args.writes.now
-    (engine_of m e) _ _ _ _ (account_for (chain_of c.in-Some.chain) (open_leg_of c.in_ok-last.last) c.in-Ok.timestamp)
-    (committed m e n.place within c.hand_over.new.notices c.hand_over.new.store) c.account-head.ensures
+    (engine_of m e) _ _ _ _ (account_for (chain_of c.in-Some.chain) (open_leg_of c.in_ok-leg.leg) c.in-Ok.timestamp)
+    (committed m e n.place within c.give_to_store.new.notices c.give_to_store.new.store) c.account-head.ensures
     (one_commits m depth e n c.args.clock c.args.room.readings c.args.room.writes c.in-Some.chain c.requires.no_key range within
-    c.in-Some.is _ _ c.committing.ensures.value c.in_ok-last.was _ c.as_slice.ensures.value _ _ _ _ c.hand_over.ensures.made c.in-Ok.is)
+    c.in-Some.is _ _ c.committing_leg.ensures.value c.in_ok-leg.was _ c.as_slice.ensures.value _ _ _ _ c.give_to_store.ensures.made c.in-Ok.is)
 
 pub returns-in-Err-clause-step : goal.returns-in-Err-clause-step
 returns-in-Err-clause-step g c =
@@ -80,10 +80,10 @@ returns-in-Err-clause-step g c =
     let range = passed leg_in_range n n _ _ refl c.check_leg.ensures c.in_ok-check_leg.was in
     let within : n.place < length e.places = grind (arith, nat_tests) in
     let same = λ (places : List (Option Chain)).
-    ap (λ x. engine_of m (record { places = places; caches = e.caches; notices = x; store = c.hand_over.new.store })) c.in-Err.ensures.unchanged
+    ap (λ x. engine_of m (record { places = places; caches = e.caches; notices = x; store = c.give_to_store.new.store })) c.in-Err.ensures.notices_unchanged
     ∙ ap (λ x. engine_of m (record { places = places; caches = e.caches; notices = e.notices; store = x })) c.in-Err.ensures.store_unchanged in
     commit_refused depth n.place n.leg c.args.clock c.args.room.readings c.args.room.writes c.args.readings.now c.args.writes.now
     (engine_of m e) _ (engine_of m e) _ _ _ (same _ ∙ left m e n.place within) refl
     (c.refused_by_store.ensures ∙ ap (λ k. around_store c.in-Err.fault k.place k.leg k.key) c.requires.no_key)
     (one_commits m depth e n c.args.clock c.args.room.readings c.args.room.writes c.in-Some.chain c.requires.no_key range within
-    c.in-Some.is _ _ c.committing.ensures.value c.in_ok-last.was _ c.as_slice.ensures.value _ _ _ _ c.hand_over.ensures.made c.in-Err.is)
+    c.in-Some.is _ _ c.committing_leg.ensures.value c.in_ok-leg.was _ c.as_slice.ensures.value _ _ _ _ c.give_to_store.ensures.made c.in-Err.is)

@@ -8,7 +8,7 @@ use Rattle.lives.specs.Lives.{event, Event, Life, NewStore, life_of}
 use Rattle.lives.specs.Rules.{the_rules}
 use Rattle.lives.specs.Steps.{AnswerTo}
 use Rattle.lives.specs.declared.calls.Call.{Call}
-use Rattle.engine.specs.Performing.{answers_to, shown_of}
+use Rattle.engine.specs.Performing.{answers_of, shown_of}
 use Rattle.engine.specs.declared.answer.Answer.{Answer}
 
 -- so of every life that led to this engine, over a new store of this depth
@@ -38,11 +38,11 @@ pub record Lived (store : NewStore) (calls : List Call) (answers : List (Result 
   -- and led to the engine
   pub leads : LedTo the_rules store (life_of the_rules store calls) after
 
--- so of every new store of this depth that means this
+-- so of the new store of this depth that means m, if there is one
 abbrev pub OverNewStore : ℕ → Meaning → (NewStore → Type 0) → Type 0
 OverNewStore depth m P = (store : NewStore) → store.depth ≡ depth → m ≡ new_store store.capacity → P store
 
 -- the calls, on a new engine over such a store, are a life that keeps the law
 abbrev pub RunKeepsLaw : ℕ → List Call → Meaning → Engine → Type 0
 RunKeepsLaw depth calls m after =
-    OverNewStore depth m (λ store. Lived store calls (answers_to depth calls (new_engine m)) after)
+    OverNewStore depth m (λ store. Lived store calls (answers_of depth calls (new_engine m)) after)

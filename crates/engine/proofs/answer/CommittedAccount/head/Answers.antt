@@ -1,7 +1,7 @@
 use Rattle.std.proofs.Common.{ap, ◌∙◌, arith}
 use Rattle.snapshot.specs.Accounts.{head_of}
 use Rattle.engine.proofs.CommitLemmas.{head_told}
-use Rattle.engine.proofs.answer.Committed.head.Goals as goal
+use Rattle.engine.proofs.answer.CommittedAccount.head.Goals as goal
 
 pub returns : goal.returns
 returns c =
