@@ -1,6 +1,14 @@
 // An engine's calls in short, with their numbers in the order of the engine's parameters, and what is seen of their answers.
 ghost use Rattle.std.specs.Prelude.{◌≡◌};
+ghost use Rattle.snapshot.specs.Intervals.{from_to};
+ghost use Rattle.snapshot.specs.Limits.{chain_readings, write_keys};
+ghost use Rattle.snapshot.specs.Refusals.{not_named, own_fault, unnamed};
+ghost use Rattle.snapshot.specs.declared.fault.Layer.TheVariants as layer;
+ghost use Rattle.snapshot.specs.declared.fault.Refusal.TheVariants.{NoSuchNotice};
+ghost use Rattle.lives.specs.Steps.{chain_fault};
 ghost use Rattle.lives.specs.declared.calls.Call.TheVariants as call;
+ghost use Rattle.engine_tests.specs.SeenOf.{seen_in};
+ghost use Rattle.engine_tests.specs.declared.seen.Seen.TheVariants as seen;
 
 use engine::answer::Answer;
 use lives::calls::Call;
@@ -61,7 +69,9 @@ pub fn write(place: u8, leg: u8, key: u8, value: u32) -> Call
 }
 
 // A commit into lists with room for every account.
-pub fn commit(place: u8, leg: u8, clock: u64) -> Call {
+pub fn commit(place: u8, leg: u8, clock: u64) -> Call
+    ensures { result ≡ call.Commit place leg clock chain_readings write_keys }
+{
     commit_into(place, leg, clock, CHAIN_READINGS, WRITE_KEYS)
 }
 
@@ -110,27 +120,31 @@ pub enum Seen {
     Legs(u8, u8),
     Value(u32),
     Notices(usize, u64),
-    CommittedAccount(AccountHead),
+    Committed(AccountHead),
     Done,
     Refused(EngineFault),
 }
 
 // What is seen of an answer.
-pub fn seen_of(answer: &Result<Answer, EngineFault>) -> Seen {
+pub fn seen_of(answer: &Result<Answer, EngineFault>) -> Seen
+    ensures { result ≡ seen_in answer.now }
+{
     match answer {
         Ok(Answer::Leg(leg)) => Seen::Leg(*leg),
         Ok(Answer::Legs(first, second)) => Seen::Legs(*first, *second),
         Ok(Answer::Value(value)) => Seen::Value(*value),
         Ok(Answer::Count(waiting, lost)) => Seen::Notices(*waiting, *lost),
-        Ok(Answer::Account(committed)) => Seen::CommittedAccount(committed.head()),
+        Ok(Answer::Account(committed)) => Seen::Committed(committed.head()),
         Ok(Answer::Done) => Seen::Done,
         Err(fault) => Seen::Refused(*fault),
     }
 }
 
 // The answer of a commit: low and high of the account's interval, its timestamp, and how many readings and writes it has.
-pub fn committed(low: u64, high: u64, timestamp: u64, readings: usize, writes: usize) -> Seen {
-    Seen::CommittedAccount(AccountHead {
+pub fn committed(low: u64, high: u64, timestamp: u64, readings: usize, writes: usize) -> Seen
+    ensures { result ≡ seen.Committed (record { interval = from_to low high; timestamp = timestamp; readings = readings; writes = writes }) }
+{
+    Seen::Committed(AccountHead {
         interval: Interval { low, high },
         timestamp,
         readings,
@@ -139,7 +153,9 @@ pub fn committed(low: u64, high: u64, timestamp: u64, readings: usize, writes: u
 }
 
 // A refusal of the chain's, with the place, leg and key that its fault has.
-pub fn refused(refusal: Refusal, place: u8, leg: u8, key: u8) -> Seen {
+pub fn refused(refusal: Refusal, place: u8, leg: u8, key: u8) -> Seen
+    ensures { result ≡ seen.Refused (chain_fault place leg key refusal) }
+{
     Seen::Refused(EngineFault {
         fault: Fault {
             refusal,
@@ -153,17 +169,23 @@ pub fn refused(refusal: Refusal, place: u8, leg: u8, key: u8) -> Seen {
 }
 
 // The same for a call that names no key.
-pub fn refused_leg(refusal: Refusal, place: u8, leg: u8) -> Seen {
+pub fn refused_leg(refusal: Refusal, place: u8, leg: u8) -> Seen
+    ensures { result ≡ seen.Refused (chain_fault place leg not_named refusal) }
+{
     refused(refusal, place, leg, NOT_NAMED)
 }
 
 // The same for a call that names neither leg nor key.
-pub fn refused_place(refusal: Refusal, place: u8) -> Seen {
+pub fn refused_place(refusal: Refusal, place: u8) -> Seen
+    ensures { result ≡ seen.Refused (chain_fault place not_named not_named refusal) }
+{
     refused(refusal, place, NOT_NAMED, NOT_NAMED)
 }
 
 // The refusal of a notice that does not wait: its fault names nothing.
-pub fn no_such_notice() -> Seen {
+pub fn no_such_notice() -> Seen
+    ensures { result ≡ seen.Refused (own_fault (unnamed NoSuchNotice layer.Notices)) }
+{
     Seen::Refused(EngineFault {
         fault: Fault {
             refusal: Refusal::NoSuchNotice,
