@@ -6,7 +6,7 @@ use Rattle.std.specs.List.{flat_map, AllByRecursion}
 use Rattle.snapshot.specs.Accounts.{Account, head_of, lawful}
 use Rattle.snapshot.specs.declared.account.AccountHead.{AccountHead}
 use Rattle.book.specs.Books.{Stands, head_line}
-use Rattle.book.specs.Format.{bytes_of, size_of}
+use Rattle.book.specs.Format.{account_bytes, size_of}
 use Rattle.book.specs.declared.reader.AccountAt.{AccountAt}
 use Rattle.book.proofs.Packing.{joined_next}
 use Rattle.book.proofs.RoundTrip.{takes_its_size}
@@ -16,14 +16,14 @@ pub record SoFar (book : List ℕ) (heads : List AccountHead) (start : ℕ) : Ty
   pub accounts : List Account
   pub lawfully : AllByRecursion (λ a. lawful a ≡ true) accounts
   pub listed : heads ≡ map head_of accounts
-  pub read : book ≡ flat_map bytes_of accounts ++ drop start book
-  pub place : start ≡ length (flat_map bytes_of accounts)
+  pub read : book ≡ flat_map account_bytes accounts ++ drop start book
+  pub place : start ≡ length (flat_map account_bytes accounts)
 
 -- an account takes some bytes
 pub goes_on : {book : List ℕ} {start : ℕ} {at : AccountAt} → Stands book start at → start < at.end
 goes_on s = omega (arith, s.takes, takes_its_size s.account)
 
-many_bytes : (done : List Account) → size_of 0 0 * length done ≤ length (flat_map bytes_of done)
+many_bytes : (done : List Account) → size_of 0 0 * length done ≤ length (flat_map account_bytes done)
 many_bytes [] = omega arith
 many_bytes (a ∷ done) = simp length-append (omega (arith, takes_its_size a, many_bytes done))
 
@@ -36,16 +36,16 @@ module _ {book : List ℕ} {heads : List AccountHead} {start : ℕ} (s : SoFar b
   so_far_more {at} {more} next pushed =
       let done = s.accounts in
       let a = next.account in
-      let bytes : flat_map bytes_of done ++ bytes_of a ≡ flat_map bytes_of (done ++ (a ∷ [])) = flat_map_more bytes_of [] done a in
+      let bytes : flat_map account_bytes done ++ account_bytes a ≡ flat_map account_bytes (done ++ (a ∷ [])) = flat_map_more account_bytes [] done a in
       record {
         accounts = done ++ (a ∷ []);
         lawfully = All-push (λ x. lawful x ≡ true) done a s.lawfully next.lawfully;
         listed = pushed ∙ ap (λ hs. hs ++ (at.head ∷ [])) s.listed ∙ ap (λ h. map head_of done ++ (h ∷ [])) next.head ∙ sym (map_push head_of done a);
         read = s.read
-            ∙ ap (λ bs. flat_map bytes_of done ++ bs) next.bytes
-            ∙ sym (append_assoc (flat_map bytes_of done) (bytes_of a) (drop at.end book))
+            ∙ ap (λ bs. flat_map account_bytes done ++ bs) next.bytes
+            ∙ sym (append_assoc (flat_map account_bytes done) (account_bytes a) (drop at.end book))
             ∙ ap (λ bs. bs ++ drop at.end book) bytes;
-        place = omega (arith, next.takes, s.place, length-append (flat_map bytes_of done) (bytes_of a), ap length bytes);
+        place = omega (arith, next.takes, s.place, length-append (flat_map account_bytes done) (account_bytes a), ap length bytes);
       }
 
 -- the list after some turns is the list before the loop with what was read behind
@@ -67,7 +67,7 @@ module _ {before after : List AccountHead} {book : List ℕ} {start : ℕ} (b : 
   pub has_room : {at : AccountAt} (room : ℕ) → Stands book start at → length before + length book / size_of 0 0 ≤ room → length after < room
   has_room {at} room next enough =
       let a = next.account in
-      let fits = ap length next.bytes ∙ length-append (bytes_of a) (drop at.end book) in
+      let fits = ap length next.bytes ∙ length-append (account_bytes a) (drop at.end book) in
       let more = ap length b.behind ∙ length-append before b.heads in
       omega (arith, so_far_few b.read, takes_its_size a, fits, length-drop start book, more)
 

@@ -9,8 +9,8 @@ use Rattle.snapshot.specs.declared.account.Write.{Write}
 use Rattle.snapshot.specs.declared.fault.Refusal.{Refusal}
 use Rattle.snapshot.specs.Overwriting.{overwritten}
 use Rattle.book.specs.Calls.{faulted, front_for}
-use Rattle.book.specs.Format.{account_from, bytes_of, counts_in, framed, front_account, lawful_only, size_of}
-use Rattle.book.specs.Theorems.{Accepted, IsWritten}
+use Rattle.book.specs.Format.{account_from, account_bytes, counts_in, framed, front_account, lawful_only, size_of}
+use Rattle.book.specs.Theorems.{Accepted, BeginsWithWritten}
 use Rattle.book.specs.declared.reader.AccountAt.{AccountAt}
 use Rattle.book.specs.declared.reader.Counts.{Counts}
 use Rattle.book.proofs.RoundTrip.{accepted_is_written, takes_its_size}
@@ -24,7 +24,7 @@ unfolding front_account
 frame_passes bs k h = grind (arith, nat_tests)
 
 -- an account that is found at a place of a book of bytes is written there
-pub accepted_at : (book : List ℕ) → ((i : ℕ) → get_or book i 0 < 256) → (start : ℕ) (a : Account) → front_account (drop start book) ≡ Ok a → IsWritten (drop start book) a
+pub accepted_at : (book : List ℕ) → ((i : ℕ) → get_or book i 0 < 256) → (start : ℕ) (a : Account) → front_account (drop start book) ≡ Ok a → BeginsWithWritten (drop start book) a
 accepted_at book small start a front =
     let bytes = All-from_get_or (λ b. b < 256) book 0 (λ i _. small i) in
     accepted_is_written (drop start book) (All-take (λ b. b < 256) _ _ (All-drop (λ b. b < 256) start book bytes)) a front
@@ -35,18 +35,18 @@ found_is_read start n m a (Ok b) e rs ws = let same : b ≡ a = cc in rw same (g
 found_is_read start n m a (Err x) e rs ws = absurd cc
 
 -- what is answered and filled in tells the account that is written there
-pub written_accepted : (book : List ℕ) (start : ℕ) (a : Account) → IsWritten (drop start book) a → (at : AccountAt) → at.head ≡ head_of a → at.end ≡ start + length (bytes_of a) → (rs : List ChainReading) (ws : List Write) → Accepted book start at (overwritten a.readings rs) (overwritten a.writes ws)
+pub written_accepted : (book : List ℕ) (start : ℕ) (a : Account) → BeginsWithWritten (drop start book) a → (at : AccountAt) → at.head ≡ head_of a → at.end ≡ start + length (account_bytes a) → (rs : List ChainReading) (ws : List Write) → Accepted book start at (overwritten a.readings rs) (overwritten a.writes ws)
 written_accepted book start a w at head end rs ws =
     let readings = overwritten a.readings rs in
     let writes = overwritten a.writes ws in
     let same : a ≡ account_of at.head readings writes =
     sym (ap (λ h. account_of h readings writes) head
     ∙ (λ i. record { low = a.low; high = a.high; timestamp = a.timestamp; readings = take_at a.readings (drop (length a.readings) rs) _ refl i; writes = take_at a.writes (drop (length a.writes) ws) _ refl i })) in
-    let behind : drop (length (bytes_of a)) (drop start book) ≡ drop at.end book =
-    drop-drop (length (bytes_of a)) start book ∙ ap (λ k. drop k book) (sym end) in
+    let behind : drop (length (account_bytes a)) (drop start book) ≡ drop at.end book =
+    drop-drop (length (account_bytes a)) start book ∙ ap (λ k. drop k book) (sym end) in
     record {
       lawfully = rw same at w.lawfully;
-      stands = rw same at (w.front ∙ ap (λ bs. bytes_of a ++ bs) behind);
+      stands = rw same at (w.front ∙ ap (λ bs. account_bytes a ++ bs) behind);
       takes = rw same at end;
       size = end ∙ ap (λ k. start + k) (takes_its_size a ∙ sym (ap (λ h. size_of h.readings h.writes) head));
     }

@@ -10,9 +10,9 @@ use Rattle.snapshot.specs.Limits.{open_end, chain_readings, write_keys}
 use Rattle.snapshot.specs.declared.account.ChainReading.{ChainReading}
 use Rattle.snapshot.specs.declared.account.Write.{Write}
 use Rattle.snapshot.specs.declared.fault.Refusal.{Refusal}
-use Rattle.book.specs.Bytes.{big_endian, number_at, exclusive_or, records_from}
-use Rattle.book.specs.Format.{reading_bytes, write_bytes, head_bytes, body_bytes, bytes_of, size_of, size_in, readings_in, writes_in, reading_from, write_from, account_from, front_account}
-use Rattle.book.specs.Theorems.{ValuesFit, IsWritten}
+use Rattle.book.specs.Bytes.{highest_first, number_at, exclusive_or, records_from}
+use Rattle.book.specs.Format.{reading_bytes, write_bytes, head_bytes, body_bytes, account_bytes, size_of, size_in, readings_in, writes_in, reading_from, write_from, account_from, front_account}
+use Rattle.book.specs.Theorems.{ValuesFit, BeginsWithWritten}
 use Rattle.book.proofs.Parts.{small_part, byte_then, part_then, front_then}
 use Rattle.book.proofs.Numbers.{number_bytes, bytes_at}
 use Rattle.book.proofs.Records.{Held, length_records, length_readings, length_writes, readings_back, writes_back, readings_written, writes_written}
@@ -22,8 +22,8 @@ use Rattle.book.proofs.Records.{Held, length_records, length_readings, length_wr
 pub length_body : (a : Account) → length (body_bytes a) ≡ 28 + (22 * length a.readings + 5 * length a.writes)
 length_body a = omega (arith, length-append (flat_map reading_bytes a.readings) (flat_map write_bytes a.writes), length_readings a.readings, length_writes a.writes)
 
-pub takes_its_size : (a : Account) → length (bytes_of a) ≡ size_of (length a.readings) (length a.writes)
-unfolding bytes_of
+pub takes_its_size : (a : Account) → length (account_bytes a) ≡ size_of (length a.readings) (length a.writes)
+unfolding account_bytes
 takes_its_size a = length-append (body_bytes a) (exclusive_or (body_bytes a) ∷ []) ∙ omega (arith, length_body a)
 
 -- The checks.
@@ -121,15 +121,15 @@ account_front a rest fits law =
     } in
     passes (body ++ tail) checks ∙ ap Ok back
 
-pub written_reads_back : (a : Account) → ValuesFit a → lawful a ≡ true → (rest : List ℕ) → front_account (bytes_of a ++ rest) ≡ Ok a
-unfolding bytes_of
+pub written_reads_back : (a : Account) → ValuesFit a → lawful a ≡ true → (rest : List ℕ) → front_account (account_bytes a ++ rest) ≡ Ok a
+unfolding account_bytes
 written_reads_back a fits law rest =
     ap front_account (append_assoc (body_bytes a) (exclusive_or (body_bytes a) ∷ []) rest) ∙ account_front a rest fits law
 
 -- Read, then written.
 
 module _ (bs : List ℕ) (c : Checks bs) (small : AllBelowBase 256 (take (size_in bs) bs)) where
-  number_written : (at : ℕ) → at + 8 ≤ 29 → big_endian 8 (number_at at 8 bs) ≡ take 8 (drop at bs)
+  number_written : (at : ℕ) → at + 8 ≤ 29 → highest_first 8 (number_at at 8 bs) ≡ take 8 (drop at bs)
   number_written at within = bytes_at (size_in bs) at 8 bs (omega arith) c.whole small
 
   head_written : head_bytes (account_from bs) ≡ take 28 bs
@@ -158,8 +158,8 @@ module _ (bs : List ℕ) (c : Checks bs) (small : AllBelowBase 256 (take (size_i
       let k : size_in bs - 1 ≡ 28 + (n + m) = omega arith in
       rw k (part_then 0 28 (n + m) bs head_written (part_then 28 n m bs readings_part writes_part))
 
-  account_written : bytes_of (account_from bs) ≡ take (size_in bs) bs
-  unfolding bytes_of
+  account_written : account_bytes (account_from bs) ≡ take (size_in bs) bs
+  unfolding account_bytes
   account_written =
       let k = size_in bs - 1 in
       let size : k + 1 ≡ size_in bs = omega arith in
@@ -169,8 +169,8 @@ module _ (bs : List ℕ) (c : Checks bs) (small : AllBelowBase 256 (take (size_i
       ∙ ap (λ n. take n bs) size
 
 -- an account that is read from bytes is written there
-pub accepted_is_written : (bs : List ℕ) → AllBelowBase 256 (take (size_in bs) bs) → (a : Account) → front_account bs ≡ Ok a → IsWritten bs a
+pub accepted_is_written : (bs : List ℕ) → AllBelowBase 256 (take (size_in bs) bs) → (a : Account) → front_account bs ≡ Ok a → BeginsWithWritten bs a
 accepted_is_written bs small a read =
     let c = passed bs a read in
     let same : account_from bs ≡ a = same_ok (account_from bs) a (sym (passes bs c) ∙ read) in
-    subst (IsWritten bs) same (record { front = front_then (size_in bs) bs _ c.whole (account_written bs c small); lawfully = c.law })
+    subst (BeginsWithWritten bs) same (record { front = front_then (size_in bs) bs _ c.whole (account_written bs c small); lawfully = c.law })

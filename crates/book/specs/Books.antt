@@ -2,20 +2,20 @@
 use Rattle.std.specs.Prelude.{◌≡◌, ℕ, ◌+◌, true, List, [], ◌∷◌, ◌++◌, map, length, drop, Ok, Err, codes, decimal, Some, None, Option, Result}
 use Rattle.std.specs.List.{flat_map, AllByRecursion}
 use Rattle.snapshot.specs.Accounts.{Account, head_of, lawful}
-use Rattle.snapshot.specs.Refusals.{book_fault, number_of}
+use Rattle.snapshot.specs.Refusals.{book_fault, refusal_number}
 use Rattle.snapshot.specs.Shown.{head_text, spaced}
 use Rattle.snapshot.specs.declared.account.AccountHead.{AccountHead}
 use Rattle.snapshot.specs.declared.fault.BookFault.{BookFault}
 use Rattle.book.specs.declared.reader.AccountAt.{AccountAt}
-use Rattle.book.specs.Format.{bytes_of, front_account}
+use Rattle.book.specs.Format.{account_bytes, front_account}
 
 -- a lawful account stands at this place of the book, up to the answered end
 pub record Stands (book : List ℕ) (start : ℕ) (at : AccountAt) : Type 0 where
   pub account : Account
   pub head : at.head ≡ head_of account
   pub lawfully : lawful account ≡ true
-  pub bytes : drop start book ≡ bytes_of account ++ drop at.end book
-  pub takes : at.end ≡ start + length (bytes_of account)
+  pub bytes : drop start book ≡ account_bytes account ++ drop at.end book
+  pub takes : at.end ≡ start + length (account_bytes account)
 
 -- no account stands there, for the reason that the fault tells
 pub record Refused (book : List ℕ) (start : ℕ) (f : BookFault) : Type 0 where
@@ -37,7 +37,7 @@ pub record Listed (book : List ℕ) (heads : List AccountHead) (ending : Option 
   pub accounts : List Account
   pub lawfully : AllByRecursion (λ a. lawful a ≡ true) accounts
   pub listed : heads ≡ map head_of accounts
-  pub ends : Ends book (flat_map bytes_of accounts) ending
+  pub ends : Ends book (flat_map account_bytes accounts) ending
 
 -- the list after the reading is the list before it with the listing behind
 pub record ListedBehind (before after : List AccountHead) (book : List ℕ) (ending : Option BookFault) : Type 0 where
@@ -56,7 +56,7 @@ head_line h = head_text h ++ line_break
 -- `end` and the number of accounts, or `bad`, the refusal's number and the place of the refused account
 abbrev pub ending_line : ℕ → Option BookFault → List ℕ
 ending_line count None = codes "end " ++ (decimal count ++ line_break)
-ending_line count (Some f) = codes "bad " ++ spaced (number_of f.fault.refusal) (decimal f.start ++ line_break)
+ending_line count (Some f) = codes "bad " ++ spaced (refusal_number f.fault.refusal) (decimal f.start ++ line_break)
 
 abbrev pub listing_text : List AccountHead → Option BookFault → List ℕ
 listing_text heads ending = flat_map head_line heads ++ ending_line (length heads) ending

@@ -3,9 +3,9 @@ use Rattle.std.specs.Prelude.{◌≡◌, ℕ, zero, suc, ◌*◌, ◌/◌, ◌%�
 use Rattle.std.specs.Int.Digits.{number_from_digits}
 
 -- the lowest k bytes of n, highest first
-abbrev pub big_endian : ℕ → ℕ → List ℕ
-big_endian zero n = []
-big_endian (suc k) n = (n / 2 ^ (8 * k) % 256) ∷ big_endian k n
+abbrev pub highest_first : ℕ → ℕ → List ℕ
+highest_first zero n = []
+highest_first (suc k) n = (n / 2 ^ (8 * k) % 256) ∷ highest_first k n
 
 -- the number that these many bytes write from this place on, highest first
 abbrev pub number_at : ℕ → ℕ → List ℕ → ℕ

@@ -9,7 +9,7 @@ use Rattle.snapshot.specs.declared.fault.Refusal.{Refusal}
 use Rattle.snapshot.specs.declared.fault.Refusal.TheVariants.{TooShort, Unlawful}
 use Rattle.book.specs.declared.reader.AccountAt.{AccountAt}
 use Rattle.snapshot.specs.Overwriting.{overwritten}
-use Rattle.book.specs.Format.{bytes_of, check, front_account}
+use Rattle.book.specs.Format.{account_bytes, accept_if, front_account}
 
 -- a refusal with the byte place at which the account starts
 abbrev pub faulted : {X : Type 0} → ℕ → Result X Refusal → Result X BookFault
@@ -18,16 +18,16 @@ faulted start (Err e) = Err (book_fault e start)
 
 -- Writing: an unlawful account is refused, then a buffer that is too short; the answer is the number of bytes.
 abbrev pub writing : Account → ℕ → Result ℕ Refusal
-writing a room = check (lawful a) Unlawful (check (nat_le (length (bytes_of a)) room) TooShort (Ok (length (bytes_of a))))
+writing a room = accept_if (lawful a) Unlawful (accept_if (nat_le (length (account_bytes a)) room) TooShort (Ok (length (account_bytes a))))
 
 -- the buffer begins with the account's bytes where it was accepted, and is as it was where not
 abbrev pub buffer_after : Account → List ℕ → List ℕ
-buffer_after a old = if is_ok (writing a (length old)) then overwritten (bytes_of a) old else old
+buffer_after a old = if is_ok (writing a (length old)) then overwritten (account_bytes a) old else old
 
 -- Reading: the account at a place of the book, for lists with room for n readings and m writes. Past the end of the book
 -- there are no bytes.
 abbrev pub room_for : ℕ → ℕ → Account → Result Account Refusal
-room_for n m a = check (nat_le (length a.readings) n && nat_le (length a.writes) m) TooShort (Ok a)
+room_for n m a = accept_if (nat_le (length a.readings) n && nat_le (length a.writes) m) TooShort (Ok a)
 
 abbrev pub front_for : ℕ → ℕ → Result Account Refusal → Result Account Refusal
 front_for n m (Ok a) = room_for n m a
@@ -38,14 +38,14 @@ read_at book start n m = front_for n m (front_account (drop start book))
 
 -- the account's five numbers, and the place after its bytes
 abbrev pub located : ℕ → Result Account Refusal → Result AccountAt Refusal
-located start (Ok a) = Ok (record { head = head_of a; end = start + length (bytes_of a) })
+located start (Ok a) = Ok (record { head = head_of a; end = start + length (account_bytes a) })
 located start (Err e) = Err e
 
 -- what is filled into the two lists: nothing where the account is refused
-abbrev pub readings_of : Result Account Refusal → List ChainReading
-readings_of (Ok a) = a.readings
-readings_of (Err e) = []
+abbrev pub filled_readings : Result Account Refusal → List ChainReading
+filled_readings (Ok a) = a.readings
+filled_readings (Err e) = []
 
-abbrev pub writes_of : Result Account Refusal → List Write
-writes_of (Ok a) = a.writes
-writes_of (Err e) = []
+abbrev pub filled_writes : Result Account Refusal → List Write
+filled_writes (Ok a) = a.writes
+filled_writes (Err e) = []

@@ -10,7 +10,7 @@ use Rattle.snapshot.specs.declared.fault.Refusal.{Refusal}
 use Rattle.snapshot.specs.declared.fault.Refusal.TheVariants.{AccountCut, WrongMark, WrongLastByte, Unlawful}
 use Rattle.book.specs.declared.account.Account.{Account as Told}
 use Rattle.book.specs.declared.reader.Counts.{Counts}
-use Rattle.book.specs.Bytes.{big_endian, number_at, records_from, exclusive_or}
+use Rattle.book.specs.Bytes.{highest_first, number_at, records_from, exclusive_or}
 
 -- How many bytes a reading, a write, and what stands before them take.
 abbrev pub reading_size : ℕ
@@ -23,8 +23,8 @@ abbrev pub head_size : ℕ
 head_size = 28
 
 -- the account that a value of the code tells
-abbrev pub told : Told → Account
-told a =
+abbrev pub as_account : Told → Account
+as_account a =
     record {
       low = a.interval.low;
       high = a.interval.high;
@@ -40,11 +40,11 @@ abbrev pub reading_bytes : ChainReading → List ℕ
 reading_bytes r =
     r.worker
     ∷ r.key
-    ∷ (big_endian 4 r.reading.value ++ (big_endian 8 r.reading.timestamp ++ big_endian 8 r.reading.promise))
+    ∷ (highest_first 4 r.reading.value ++ (highest_first 8 r.reading.timestamp ++ highest_first 8 r.reading.promise))
 
 -- key 1 byte, value 4
 abbrev pub write_bytes : Write → List ℕ
-write_bytes w = w.key ∷ big_endian 4 w.value
+write_bytes w = w.key ∷ highest_first 4 w.value
 
 -- the mark, the numbers of readings and writes, low, high and timestamp
 abbrev pub head_bytes : Account → List ℕ
@@ -53,15 +53,15 @@ head_bytes a =
     ∷ 0x3C
     ∷ length a.readings
     ∷ length a.writes
-    ∷ (big_endian 8 a.low ++ (big_endian 8 a.high ++ big_endian 8 a.timestamp))
+    ∷ (highest_first 8 a.low ++ (highest_first 8 a.high ++ highest_first 8 a.timestamp))
 
 -- all bytes but the last
 abbrev pub body_bytes : Account → List ℕ
 body_bytes a = head_bytes a ++ (flat_map reading_bytes a.readings ++ flat_map write_bytes a.writes)
 
 -- the account's bytes: the last is the exclusive-or of those before it
-unfoldable pub bytes_of : Account → List ℕ
-bytes_of a = body_bytes a ++ (exclusive_or (body_bytes a) ∷ [])
+unfoldable pub account_bytes : Account → List ℕ
+account_bytes a = body_bytes a ++ (exclusive_or (body_bytes a) ∷ [])
 
 -- how many bytes an account of n readings and m writes has, the last byte included
 abbrev pub size_of : ℕ → ℕ → ℕ
@@ -100,24 +100,24 @@ account_from bs =
     }
 
 -- refused unless the test holds
-abbrev pub check : {X : Type 0} → Bool → Refusal → Result X Refusal → Result X Refusal
-check ok e rest = if ok then rest else Err e
+abbrev pub accept_if : {X : Type 0} → Bool → Refusal → Result X Refusal → Result X Refusal
+accept_if ok e rest = if ok then rest else Err e
 
 -- the bytes of one account stand at the front: its two counts are in range, it is whole, and its last byte is right
 abbrev pub framed : {X : Type 0} → List ℕ → Result X Refusal → Result X Refusal
 framed bs rest =
-    check (nat_le 4 (length bs)) AccountCut
-    (check (slice_index bs 0 == 0xC3 && slice_index bs 1 == 0x3C) WrongMark
-    (check (nat_le (readings_in bs) chain_readings && nat_le (writes_in bs) write_keys) Unlawful
-    (check (nat_le (size_in bs) (length bs)) AccountCut
-    (check (slice_index bs (size_in bs - 1) == exclusive_or (take (size_in bs - 1) bs)) WrongLastByte rest))))
+    accept_if (nat_le 4 (length bs)) AccountCut
+    (accept_if (slice_index bs 0 == 0xC3 && slice_index bs 1 == 0x3C) WrongMark
+    (accept_if (nat_le (readings_in bs) chain_readings && nat_le (writes_in bs) write_keys) Unlawful
+    (accept_if (nat_le (size_in bs) (length bs)) AccountCut
+    (accept_if (slice_index bs (size_in bs - 1) == exclusive_or (take (size_in bs - 1) bs)) WrongLastByte rest))))
 
 abbrev pub counts_in : List ℕ → Counts
 counts_in bs = record { readings = readings_in bs; writes = writes_in bs }
 
 -- an unlawful account is refused
 abbrev pub lawful_only : Account → Result Account Refusal
-lawful_only a = check (lawful a) Unlawful (Ok a)
+lawful_only a = accept_if (lawful a) Unlawful (Ok a)
 
 -- the account at the front of the bytes, or why there is none: the first check that fails refuses
 unfoldable pub front_account : List ℕ → Result Account Refusal

@@ -7,7 +7,7 @@ use Rattle.snapshot.specs.declared.account.Write.{Write}
 use Rattle.snapshot.specs.declared.fault.BookFault.{BookFault}
 use Rattle.book.specs.declared.reader.AccountAt.{AccountAt}
 use Rattle.book.specs.Calls.{read_at}
-use Rattle.book.specs.Format.{bytes_of, size_of}
+use Rattle.book.specs.Format.{account_bytes, size_of}
 
 -- each value has at most 32 bits, as the types of the code say
 pub record ValuesFit (a : Account) : Type 0 where
@@ -18,19 +18,19 @@ pub record ValuesFit (a : Account) : Type 0 where
 abbrev pub ReadsBackAnywhere : Account → Type 0
 ReadsBackAnywhere a =
     (before rest : List ℕ) (n m : ℕ) → length a.readings ≤ n → length a.writes ≤ m
-    → read_at (before ++ (bytes_of a ++ rest)) (length before) n m ≡ Ok a
+    → read_at (before ++ (account_bytes a ++ rest)) (length before) n m ≡ Ok a
 
 -- the account is lawful, and the bytes are its bytes with others behind
-pub record IsWritten (bs : List ℕ) (a : Account) : Type 0 where
-  pub front : bs ≡ bytes_of a ++ drop (length (bytes_of a)) bs
+pub record BeginsWithWritten (bs : List ℕ) (a : Account) : Type 0 where
+  pub front : bs ≡ account_bytes a ++ drop (length (account_bytes a)) bs
   pub lawfully : lawful a ≡ true
 
 -- what the reader accepts: the answered numbers and the filled lists tell a lawful account, its bytes stand at that place
 -- of the book, and the answered place is the one after them, as far on as the two counts say
 pub record Accepted (book : List ℕ) (start : ℕ) (at : AccountAt) (rs : List ChainReading) (ws : List Write) : Type 0 where
   pub lawfully : lawful (account_of at.head rs ws) ≡ true
-  pub stands : drop start book ≡ bytes_of (account_of at.head rs ws) ++ drop at.end book
-  pub takes : at.end ≡ start + length (bytes_of (account_of at.head rs ws))
+  pub stands : drop start book ≡ account_bytes (account_of at.head rs ws) ++ drop at.end book
+  pub takes : at.end ≡ start + length (account_bytes (account_of at.head rs ws))
   pub size : at.end ≡ start + size_of at.head.readings at.head.writes
 
 abbrev pub AcceptedOnly : List ℕ → ℕ → Result AccountAt BookFault → List ChainReading → List Write → Type 0

@@ -1,10 +1,10 @@
 // An account as a caller has it, and whether it is lawful: the rules that its numbers, readings and writes keep.
 ghost use Rattle.std.specs.Prelude.{◌≡◌, ◌^◌, ◌<◌, true, ◌&&◌, nat_lt};
 ghost use Rattle.std.specs.List.{AllByRecursion, list_all};
-ghost use Rattle.snapshot.specs.Accounts.{Agrees, agreed_ends, few_enough, lawful, sound_reading, sound_timestamp, greatest_timestamp, least_promise};
+ghost use Rattle.snapshot.specs.Accounts.{CommonTimes, agreed_ends, few_enough, lawful, sound_reading, sound_timestamp, greatest_timestamp, least_promise};
 ghost use Rattle.snapshot.specs.Intervals.{from_to};
 ghost use Rattle.book.specs.Theorems.{ValuesFit};
-ghost use Rattle.book.specs.Format.{told};
+ghost use Rattle.book.specs.Format.{as_account};
 
 use snapshot::account::{ChainReading, Write};
 use snapshot::interval::Interval;
@@ -24,9 +24,9 @@ pub struct Account<'a> {
 impl Account<'_> {
     // Is the account lawful?
     pub fn is_lawful(&self) -> bool
-        ensures value { result ≡ lawful (told self.now) }
-        ensures means { result ≡ true → Agrees (told self.now) }
-        ensures fits { result ≡ true → ValuesFit (told self.now) }
+        ensures value { result ≡ lawful (as_account self.now) }
+        ensures means { result ≡ true → CommonTimes (as_account self.now) }
+        ensures fits { result ≡ true → ValuesFit (as_account self.now) }
     {
         // `&` has no branch: every rule is looked at.
         self.is_small()

@@ -3,9 +3,9 @@ ghost use Rattle.std.specs.Prelude.{◌≡◌, ◌+◌, ◌^◌, ◌<◌, ◌≤
 ghost use Rattle.snapshot.specs.Accounts.{head_of, lawful};
 ghost use Rattle.snapshot.specs.Limits.{chain_readings, write_keys};
 ghost use Rattle.snapshot.specs.Overwriting.{overwritten};
-ghost use Rattle.book.specs.Calls.{faulted, located, read_at, readings_of, writes_of};
-ghost use Rattle.book.specs.Format.{account_from, bytes_of, counts_in, framed, front_account, size_of, told};
-ghost use Rattle.book.specs.Theorems.{AcceptedOnly, IsWritten};
+ghost use Rattle.book.specs.Calls.{faulted, located, read_at, filled_readings, filled_writes};
+ghost use Rattle.book.specs.Format.{account_from, account_bytes, counts_in, framed, front_account, size_of, as_account};
+ghost use Rattle.book.specs.Theorems.{AcceptedOnly, BeginsWithWritten};
 
 use crate::account::Account;
 use crate::lawful::LawfulAccount;
@@ -59,7 +59,7 @@ impl Model for Stored {
 
 impl Stored {
     fn account(&self) -> Account<'_>
-        ensures { told result ≡ self.now }
+        ensures { as_account result ≡ self.now }
     {
         Account {
             interval: self.interval,
@@ -100,7 +100,7 @@ impl Model for LawfulStored {
 
 impl LawfulStored {
     pub(crate) fn account(&self) -> LawfulAccount<'_>
-        ensures { told result.account ≡ self.now }
+        ensures { as_account result.account ≡ self.now }
     {
         LawfulAccount {
             account: self.stored.account(),
@@ -111,9 +111,9 @@ impl LawfulStored {
 impl LawfulAccount<'_> {
     // The five numbers, and the place after the account's bytes where they begin at this one.
     pub(crate) fn located(&self, start: usize) -> AccountAt
-        requires { start + length (bytes_of (told self.now.account)) < 2 ^ 64 }
-        ensures head { result.head ≡ head_of (told self.now.account) }
-        ensures end { result.end ≡ start + length (bytes_of (told self.now.account)) }
+        requires { start + length (account_bytes (as_account self.now.account)) < 2 ^ 64 }
+        ensures head { result.head ≡ head_of (as_account self.now.account) }
+        ensures end { result.end ≡ start + length (account_bytes (as_account self.now.account)) }
     {
         AccountAt {
             head: AccountHead {
@@ -137,8 +137,8 @@ pub fn read_account(
     writes: &mut [Write],
 ) -> Result<AccountAt, BookFault>
     ensures value { result ≡ faulted start (located start (read_at book.now start (length readings.old) (length writes.old))) }
-    ensures readings { readings.new ≡ overwritten (readings_of (read_at book.now start (length readings.old) (length writes.old))) readings.old }
-    ensures writes { writes.new ≡ overwritten (writes_of (read_at book.now start (length readings.old) (length writes.old))) writes.old }
+    ensures readings { readings.new ≡ overwritten (filled_readings (read_at book.now start (length readings.old) (length writes.old))) readings.old }
+    ensures writes { writes.new ≡ overwritten (filled_writes (read_at book.now start (length readings.old) (length writes.old))) writes.old }
     ensures written { AcceptedOnly book.now start result readings.new writes.new }
 {
     let stored = account_at(book, start)?;
@@ -156,7 +156,7 @@ pub fn read_account(
 #[tactic(auto, using(crate::proofs::Reading::accepted_at))]
 pub(crate) fn account_at(book: &[u8], start: usize) -> Result<LawfulStored, BookFault>
     ensures value { result ≡ faulted start (front_account (drop start book.now)) }
-    ensures written { IfOk result (IsWritten (drop start book.now)) }
+    ensures written { IfOk result (BeginsWithWritten (drop start book.now)) }
 {
     front_account(from_place(book, start)).map_err(|refusal| BookFault::new(refusal, start))
 }

@@ -2,7 +2,7 @@
 ghost use Rattle.std.specs.Prelude.{◌≡◌, ◌≤◌, true, length, is_ok};
 ghost use Rattle.snapshot.specs.Overwriting.{overwritten};
 ghost use Rattle.book.specs.Calls.{buffer_after, faulted, writing};
-ghost use Rattle.book.specs.Format.{bytes_of, head_bytes, head_size, told};
+ghost use Rattle.book.specs.Format.{account_bytes, head_bytes, head_size, as_account};
 ghost use Rattle.book.specs.Theorems.{ReadsBackAnywhere};
 
 use crate::account::Account;
@@ -20,9 +20,9 @@ impl Account<'_> {
     // that is too short; a refusal leaves the buffer as it was.
     #[tactic(auto, using(crate::proofs::Writing::reads_back_anywhere))]
     pub fn write(&self, buffer: &mut [u8]) -> Result<usize, BookFault>
-        ensures value { result ≡ faulted 0 (writing (told self.now) (length buffer.old)) }
-        ensures after { buffer.new ≡ buffer_after (told self.now) buffer.old }
-        ensures back { is_ok result ≡ true → ReadsBackAnywhere (told self.now) }
+        ensures value { result ≡ faulted 0 (writing (as_account self.now) (length buffer.old)) }
+        ensures after { buffer.new ≡ buffer_after (as_account self.now) buffer.old }
+        ensures back { is_ok result ≡ true → ReadsBackAnywhere (as_account self.now) }
     {
         let Some(account) = self.lawful() else {
             return Err(BookFault::new(Refusal::Unlawful, 0));
@@ -40,7 +40,7 @@ impl LawfulAccount<'_> {
     // How many bytes the account has.
     #[tactic(auto, using(crate::proofs::RoundTrip::takes_its_size))]
     pub(crate) fn size(&self) -> usize
-        ensures { result ≡ length (bytes_of (told self.now.account)) }
+        ensures { result ≡ length (account_bytes (as_account self.now.account)) }
     {
         account_size(self.account.readings.len(), self.account.writes.len())
     }
@@ -48,8 +48,8 @@ impl LawfulAccount<'_> {
     // Puts the account's bytes to the start of the buffer.
     #[tactic(auto, using(crate::proofs::RoundTrip::takes_its_size))]
     fn put(&self, buffer: &mut [u8])
-        requires { length (bytes_of (told self.now.account)) ≤ length buffer.old }
-        ensures { buffer.new ≡ overwritten (bytes_of (told self.now.account)) buffer.old }
+        requires { length (account_bytes (as_account self.now.account)) ≤ length buffer.old }
+        ensures { buffer.new ≡ overwritten (account_bytes (as_account self.now.account)) buffer.old }
     {
         self.put_head(buffer);
         pack_all(self.account.readings, &mut buffer[HEAD_SIZE..]);
@@ -64,7 +64,7 @@ impl LawfulAccount<'_> {
     // Puts the mark, the counts, low, high and timestamp before the readings.
     fn put_head(&self, buffer: &mut [u8])
         requires { head_size ≤ length buffer.old }
-        ensures { buffer.new ≡ overwritten (head_bytes (told self.now.account)) buffer.old }
+        ensures { buffer.new ≡ overwritten (head_bytes (as_account self.now.account)) buffer.old }
     {
         buffer[..2].copy_from_slice(&MARK);
         // `as`, since the lists of a lawful account are short

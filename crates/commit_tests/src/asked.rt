@@ -10,7 +10,7 @@ use engine_tests::seen::Seen::{self, Done, Leg, Legs, Refused, Value};
 use engine_tests::seen::{
     begin, commit, commit_into, committed, fork, join, read, refused_leg, write,
 };
-use lives::calls::Call;
+use engine_model::calls::Call;
 use newest_store::newest::Newest;
 use snapshot::account::{NO_WRITE, Reading, Write};
 use snapshot::fault::Fault;

@@ -7,7 +7,7 @@ use engine_tests::seen::{
     abandon, begin, commit, commit_into, committed, deliver, discard, fork, join, no_such_notice,
     prune, read, refused_leg, write,
 };
-use lives::calls::Call::Count;
+use engine_model::calls::Call::Count;
 use newest_store::newest::Newest;
 use snapshot::fault::Refusal::{ClockTooHigh, TooShort};
 use snapshot::limits::{OPEN_END, WORKERS};
@@ -473,7 +473,7 @@ fn older_answer_of_the_store_stays_out_of_a_cache_with_a_later_notice(rt: HostRu
     );
 }
 
-// A late notice, a split chain and a dropped version in one life.
+// A late notice, a split chain and a dropped version in one trace.
 
 // The zone (7) is 5 from time 10 on, the set record (9) 3 from time 20 on, and worker 1 knows the zone up to 20. At 30 the
 // zone becomes 6, and the notice of that waits. A chain at place 0 reads the zone at worker 1 and the set record at worker

@@ -7,7 +7,7 @@ use engine_tests::seen::{
     abandon, begin, commit, committed, fork, hand, join, prune, read, refused_leg, refused_place,
     write,
 };
-use lives::calls::Call::Count;
+use engine_model::calls::Call::Count;
 use newest_store::newest::Newest;
 use snapshot::fault::Refusal::{
     AnotherLegOpen, CapacityExceeded, ClockTooHigh, IntervalsApart, NoTimeLeft, NotOpen,

@@ -5,7 +5,7 @@ use engine_tests::seen::Seen::{Done, Leg, Legs, Notices, Value};
 use engine_tests::seen::{
     begin, commit_into, committed, fork, read, refused_leg, refused_place, write,
 };
-use lives::calls::Call::Count;
+use engine_model::calls::Call::Count;
 use newest_store::newest::Newest;
 use snapshot::account::{AccountHead, ChainReading, NO_READING, Reading, Write};
 use snapshot::fault::Refusal::{AnotherLegOpen, ClockTooHigh, NotOpen, PlaceOccupied, TooShort};

@@ -7,7 +7,7 @@ use engine_tests::seen::Seen::{self, Done, Leg, Notices, Refused, Value};
 use engine_tests::seen::{
     abandon, begin, commit, committed, hand, prune, read, refused_place, seen_of, write,
 };
-use lives::calls::Call::{self, Count};
+use engine_model::calls::Call::{self, Count};
 use newest_store::newest::Newest;
 use snapshot::fault::EngineFault;
 use snapshot::fault::Refusal::{CapacityExceeded, NotOpen};

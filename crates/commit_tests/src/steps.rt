@@ -3,7 +3,7 @@ use engine::answer::Answer;
 use engine::engine::Engine;
 use engine_tests::seen::Seen::{self, Done, Leg, Value};
 use engine_tests::seen::{abandon, begin, commit, committed, read, seen_of, write};
-use lives::calls::Call;
+use engine_model::calls::Call;
 use snapshot::account::{ChainReading, Reading, Write};
 use snapshot::fault::{EngineFault, Fault, Layer, NOT_NAMED, Refusal};
 use snapshot::limits::OPEN_END;

@@ -3,11 +3,11 @@ use Rattle.std.proofs.Common.{◌≡◌, ℕ, ◌+◌, ◌<◌, eqb, ltb, true, 
 use Rattle.std.proofs.lemmas.Bool.{false≢true, eq-eqb}
 use Rattle.snapshot.specs.declared.fault.EngineFault.{EngineFault}
 use Rattle.engine_parts.proofs.ItemLemmas.{item_set}
-use Rattle.lives.proofs.Updates.{at_other}
-use Rattle.lives.specs.Engines as model
+use Rattle.engine_model.proofs.Updates.{at_other}
+use Rattle.engine_model.specs.Engines as model
 use Rattle.engine.specs.ChainCalls.{after_join}
 use Rattle.engine.specs.Chains.{chain_of}
-use Rattle.engine.specs.Legs.{leg_of, open_leg_of, open_in, after_call, joined_leg}
+use Rattle.engine.specs.Legs.{leg_of, open_leg_of, open_in, leg_after, joined_leg}
 use Rattle.engine.specs.declared.chain.Chain.{Chain}
 use Rattle.engine.specs.declared.leg.Leg.{Leg}
 use Rattle.engine.specs.declared.leg.Leg.TheVariants as leg
@@ -36,7 +36,7 @@ leg_opened c o lt =
     ∙ ap (C (model.open_leg (open_leg_of o) (chain_of c)).legs) (add-one c.opened)
 
 -- a leg that is open ends
-open_ends : (state : model.LegState) (o : model.OpenLeg) → open_in state ≡ Some o → (after_call call.End state).1 ≡ model.ended
+open_ends : (state : model.LegState) (o : model.OpenLeg) → open_in state ≡ Some o → (leg_after call.End state).1 ≡ model.ended
 open_ends model.unused o e = absurd cc
 open_ends (model.running l) o e = refl
 open_ends model.ended o e = absurd cc
@@ -45,13 +45,13 @@ open_ends model.ended o e = absurd cc
 pub both_end :
     (c : model.Chain) (l j : ℕ) (first second : model.OpenLeg) → eqb l j ≡ false → open_in (c.legs l) ≡ Some first →
     open_in (c.legs j) ≡ Some second → (one two : model.Chain) →
-    one ≡ model.with_leg l (after_call call.End (c.legs l)).1 c → two ≡ model.with_leg j (after_call call.End (one.legs j)).1 one →
+    one ≡ model.with_leg l (leg_after call.End (c.legs l)).1 c → two ≡ model.with_leg j (leg_after call.End (one.legs j)).1 one →
     two ≡ model.end_leg j (model.end_leg l c)
 both_end c l j first second apart open_l open_j one two e f =
     let ended_one : one ≡ model.end_leg l c = e ∙ ap (λ state. model.with_leg l state c) (open_ends (c.legs l) first open_l) in
     let still : one.legs j ≡ c.legs j = ap (λ m. m.legs j) ended_one ∙ at_other l model.ended c.legs j (λ same. false≢true (sym apart ∙ eq-eqb l j (sym same))) in
     f
-    ∙ ap (λ state. model.with_leg j (after_call call.End state).1 one) still
+    ∙ ap (λ state. model.with_leg j (leg_after call.End state).1 one) still
     ∙ ap (λ state. model.with_leg j state one) (open_ends (c.legs j) second open_j)
     ∙ ap (model.with_leg j model.ended) ended_one
 

@@ -5,14 +5,14 @@ use Rattle.snapshot.specs.Limits.{is_key, is_worker, is_place, is_leg}
 use Rattle.snapshot.specs.Refusals.{not_named}
 use Rattle.snapshot.specs.declared.fault.EngineFault.{EngineFault}
 use Rattle.snapshot.specs.declared.fault.Refusal.{Refusal}
-use Rattle.lives.specs.Engines.{OpenLeg, Chain, end_leg, open_leg, Engine, with_place}
-use Rattle.lives.specs.Steps.{Outcome, refused}
-use Rattle.lives.specs.WriteSets.{with_write, united}
-use Rattle.lives.specs.declared.calls.Call.TheVariants as call
-use Rattle.lives.proofs.Updates.{at_same_value}
+use Rattle.engine_model.specs.Engines.{OpenLeg, Chain, end_leg, open_leg, Engine, with_place}
+use Rattle.engine_model.specs.Steps.{StepOutcome, refused}
+use Rattle.engine_model.specs.WriteSets.{with_write, united}
+use Rattle.engine_model.specs.declared.calls.Call.TheVariants as call
+use Rattle.engine_model.proofs.Updates.{at_same_value}
 use Rattle.engine.specs.Legs.{on_result}
 use Rattle.engine.specs.ChainCalls.{refused_with, after_hand, after_fork, after_join, after_write}
-use Rattle.engine.specs.StepOf.{outcome_of, step_of}
+use Rattle.engine.specs.StepOf.{answer_and_engine, step_of}
 use Rattle.engine.specs.Naming.{naming}
 use Rattle.engine.specs.declared.named.Named.{Named}
 use Rattle.engine.proofs.BothSides.{both_check, both_check_not, both_open, both_result, both_fit, where_passed, where_leg}
@@ -47,8 +47,8 @@ by_placing : {X : Type 0} (s : Engine) (p : ℕ) (made : WithChain X) (step : Wi
 by_placing s p made step same r c so = ap (placed s p) so ∙ same
 
 -- the same of what a step comes to
-abbrev Placed : {X : Type 0} → Engine → ℕ → WithChain X → Outcome X → Type 0
-Placed s p made o = placed s p made ≡ outcome_of s o
+abbrev Placed : {X : Type 0} → Engine → ℕ → WithChain X → StepOutcome X → Type 0
+Placed s p made o = placed s p made ≡ answer_and_engine s o
 
 unchanged :
     {X : Type 0} (s : Engine) (p : ℕ) (c : Chain) → s.places p ≡ Some c → (f : EngineFault) →
@@ -61,7 +61,7 @@ pub hand_is_step :
     (depth p l w : ℕ) (s : Engine) (c : Chain) → (is_place p && is_leg l && is_worker w) ≡ true → s.places p ≡ Some c →
     IsStepOf s p (after_hand (naming p l not_named) w c) (step_of depth (call.Hand p l w) s)
 hand_is_step depth p l w s c range here =
-    let P : WithChain ℕ → Outcome ℕ → Type 0 = Placed s p in
+    let P : WithChain ℕ → StepOutcome ℕ → Type 0 = Placed s p in
     let same : (f : EngineFault) → P (Err f, c) (refused f) = unchanged s p c here in
     let made : WithChain ℕ = after_hand (naming p l not_named) w c in
     by_placing s p made _
@@ -74,7 +74,7 @@ pub fork_is_step :
     (depth p l w v : ℕ) (s : Engine) (c : Chain) → (is_place p && is_leg l && is_worker w && is_worker v) ≡ true →
     s.places p ≡ Some c → IsStepOf s p (after_fork (naming p l not_named) w v c) (step_of depth (call.Fork p l w v) s)
 fork_is_step depth p l w v s c range here =
-    let P : WithChain (ℕ × ℕ) → Outcome (ℕ × ℕ) → Type 0 = Placed s p in
+    let P : WithChain (ℕ × ℕ) → StepOutcome (ℕ × ℕ) → Type 0 = Placed s p in
     let same : (f : EngineFault) → P (Err f, c) (refused f) = unchanged s p c here in
     let made : WithChain (ℕ × ℕ) = after_fork (naming p l not_named) w v c in
     by_placing s p made _
@@ -87,7 +87,7 @@ pub join_is_step :
     (depth p l j w : ℕ) (s : Engine) (c : Chain) → (is_place p && is_leg l && is_leg j && is_worker w) ≡ true →
     s.places p ≡ Some c → IsStepOf s p (after_join (naming p l not_named) j w c) (step_of depth (call.Join p l j w) s)
 join_is_step depth p l j w s c range here =
-    let P : WithChain ℕ → Outcome ℕ → Type 0 = Placed s p in
+    let P : WithChain ℕ → StepOutcome ℕ → Type 0 = Placed s p in
     let same : (f : EngineFault) → P (Err f, c) (refused f) = unchanged s p c here in
     let n : Named = naming p l not_named in
     let made : WithChain ℕ = after_join n j w c in
@@ -107,7 +107,7 @@ pub write_is_step :
     (depth p l k x : ℕ) (s : Engine) (c : Chain) → (is_place p && is_leg l && is_key k) ≡ true → s.places p ≡ Some c →
     IsStepOf s p (after_write (naming p l k) x c) (step_of depth (call.Write p l k x) s)
 write_is_step depth p l k x s c range here =
-    let P : WithChain (Unit {0}) → Outcome (Unit {0}) → Type 0 = Placed s p in
+    let P : WithChain (Unit {0}) → StepOutcome (Unit {0}) → Type 0 = Placed s p in
     let same : (f : EngineFault) → P (Err f, c) (refused f) = unchanged s p c here in
     let made : WithChain (Unit {0}) = after_write (naming p l k) x c in
     let of : WithChain (Unit {0}) → WithChain (Unit {0}) = λ m. m in

@@ -4,7 +4,7 @@ use Rattle.std.specs.Option.{option_map}
 use Rattle.std.specs.Result.{result_map_both}
 use Rattle.std.proofs.lemmas.List.{take_more, take_at, length-take-le, set-get_or}
 use Rattle.snapshot.specs.Accounts.{Account, head_of, account_of, lawful}
-use Rattle.snapshot.specs.Limits.{legs}
+use Rattle.snapshot.specs.Limits.{leg_count}
 use Rattle.snapshot.specs.Overwriting.{overwritten}
 use Rattle.snapshot.specs.Refusals.{not_named}
 use Rattle.snapshot.specs.declared.account.AccountHead.{AccountHead}
@@ -19,18 +19,18 @@ use Rattle.engine_parts.specs.WaitingNotices.{notices_of}
 use Rattle.engine_parts.specs.WriteSets.{writes_of}
 use Rattle.engine_parts.specs.declared.notices.Notices.{Notices}
 use Rattle.engine_parts.proofs.ItemLemmas.{item_set}
-use Rattle.lives.specs.Engines as model
-use Rattle.lives.specs.Lives.{event}
-use Rattle.lives.specs.Rules.{the_rules}
-use Rattle.lives.specs.Steps.{answer_in, chain_fault, only_open, step}
-use Rattle.lives.specs.declared.calls.Call.TheVariants as call
-use Rattle.lives.proofs.LifeProofs.{the_rules_lawful}
+use Rattle.engine_model.specs.Engines as model
+use Rattle.engine_model.specs.Traces.{event}
+use Rattle.engine_model.specs.Rules.{the_rules}
+use Rattle.engine_model.specs.Steps.{answer_in, chain_fault, only_open, step}
+use Rattle.engine_model.specs.declared.calls.Call.TheVariants as call
+use Rattle.engine_model.proofs.TraceProofs.{the_rules_lawful}
 use Rattle.engine.specs.ChainCalls.{on_open}
 use Rattle.engine.specs.Chains.{chain_of}
 use Rattle.engine.specs.Commits.{committing_leg, answer_and_lists, given_to_store}
 use Rattle.engine.specs.Engines.{CallersLists, engine_of}
 use Rattle.engine.specs.Legs.{open_leg_of}
-use Rattle.engine.specs.EngineLaw.{InEveryLife}
+use Rattle.engine.specs.EngineLaw.{InEveryTrace}
 use Rattle.engine.specs.Naming.{naming, leg_in_range}
 use Rattle.engine.specs.StepOf.{step_of}
 use Rattle.engine.specs.declared.chain.Chain.{Chain}
@@ -52,8 +52,8 @@ filled_more xs old list n x d lt room is same =
     ∙ ap (λ front. overwritten front old) (ap (λ y. take n xs ++ (y ∷ [])) same ∙ sym (take_more xs n d lt))
 
 -- the five numbers and the two lists tell the account
-tells : (rs : List ChainReading) (ws : List Write) (a : Account) → account_of (head_of a) (overwritten a.readings rs) (overwritten a.writes ws) ≡ a
-tells rs ws a =
+shows : (rs : List ChainReading) (ws : List Write) (a : Account) → account_of (head_of a) (overwritten a.readings rs) (overwritten a.writes ws) ≡ a
+shows rs ws a =
     let A : List ChainReading → List Write → Account =
     λ xs ys. record { low = a.low; high = a.high; timestamp = a.timestamp; readings = xs; writes = ys } in
     ap (λ xs. A xs (take (length a.writes) (overwritten a.writes ws))) (take_at a.readings _ (length a.readings) refl)
@@ -63,18 +63,18 @@ abbrev head_in : AccountHead → Result AccountHead EngineFault → AccountHead
 head_in h (Ok x) = x
 head_in h (Err f) = h
 
-pub lists_tell :
+pub lists_show :
     (rs : List ChainReading) (ws : List Write) (a : Account) (h : AccountHead) (lists : CallersLists) →
     (Ok h, lists) ≡ answer_and_lists rs ws (Ok a) → account_of h lists.0 lists.1 ≡ a
-lists_tell rs ws a h lists is =
-    let told : Result AccountHead EngineFault × CallersLists → Account = λ t. account_of (head_in h t.0) t.1.0 t.1.1 in
-    ap told is ∙ tells rs ws a
+lists_show rs ws a h lists is =
+    let shown_account : Result AccountHead EngineFault × CallersLists → Account = λ t. account_of (head_in h t.0) t.1.0 t.1.1 in
+    ap shown_account is ∙ shows rs ws a
 
 -- the five numbers of an account that is told so
-pub head_told :
+pub head_shown :
     (h : AccountHead) (rs : List ChainReading) (ws : List Write) → h.readings ≤ length rs → h.writes ≤ length ws →
     h ≡ head_of (account_of h rs ws)
-head_told h rs ws readings_fit writes_fit =
+head_shown h rs ws readings_fit writes_fit =
     let H : ℕ → ℕ → AccountHead = λ n m. record { interval = h.interval; timestamp = h.timestamp; readings = n; writes = m } in
     ap (λ n. H n h.writes) (sym (length-take-le h.readings rs readings_fit))
     ∙ ap (H (length (take h.readings rs))) (sym (length-take-le h.writes ws writes_fit))
@@ -99,57 +99,57 @@ not_both : {X : Type 0} (h : AccountHead) (f : EngineFault) → ◌≡◌ {A = R
 not_both h f e = absurd cc
 
 module _ (depth p l clock r w : ℕ) (rs : List ChainReading) (ws : List Write) (s : model.Engine) where
-  abbrev pub drawn : WithEngine Account
-  drawn = step_of depth (call.Commit p l clock r w) s
+  abbrev pub stepped : WithEngine Account
+  stepped = step_of depth (call.Commit p l clock r w) s
 
   -- a commit's answer, its caller's lists and an engine are those that the rules draw
-  abbrev pub IsDrawn : Result AccountHead EngineFault → CallersLists → model.Engine → Type 0
-  IsDrawn q lists t =
-      ◌≡◌ {A = (Result AccountHead EngineFault × CallersLists) × model.Engine} ((q, lists), t) (answer_and_lists rs ws drawn.0, drawn.1)
+  abbrev pub IsStepped : Result AccountHead EngineFault → CallersLists → model.Engine → Type 0
+  IsStepped q lists t =
+      ◌≡◌ {A = (Result AccountHead EngineFault × CallersLists) × model.Engine} ((q, lists), t) (answer_and_lists rs ws stepped.0, stepped.1)
 
-  abbrev drawn_for_caller : WithEngine Account → (Result AccountHead EngineFault × CallersLists) × model.Engine
-  drawn_for_caller d = (answer_and_lists rs ws d.0, d.1)
+  abbrev stepped_for_caller : WithEngine Account → (Result AccountHead EngineFault × CallersLists) × model.Engine
+  stepped_for_caller d = (answer_and_lists rs ws d.0, d.1)
 
   -- of a refused commit
   pub commit_refused :
       (t t' : model.Engine) (q : Result AccountHead EngineFault) (f f' : EngineFault) → t ≡ t' → q ≡ Err f → f ≡ f' →
-      ◌≡◌ {A = WithEngine Account} (Err f', t') drawn → IsDrawn q (rs, ws) t
-  commit_refused t t' q f f' left is same drawn_so =
+      ◌≡◌ {A = WithEngine Account} (Err f', t') stepped → IsStepped q (rs, ws) t
+  commit_refused t t' q f f' left is same stepped_so =
       let P : Result AccountHead EngineFault → (Result AccountHead EngineFault × CallersLists) × model.Engine = λ x. ((x, (rs, ws)), t) in
       let Q : model.Engine → (Result AccountHead EngineFault × CallersLists) × model.Engine = λ u. ((Err f', (rs, ws)), u) in
-      ap P (is ∙ ap Err same) ∙ ap Q left ∙ ap drawn_for_caller drawn_so
+      ap P (is ∙ ap Err same) ∙ ap Q left ∙ ap stepped_for_caller stepped_so
 
   -- of an accepted one
   pub commit_accepted :
       (t t' : model.Engine) (q : Result AccountHead EngineFault) (lists : CallersLists) (a : Account) → t ≡ t' →
-      (q, lists) ≡ answer_and_lists rs ws (Ok a) → ◌≡◌ {A = WithEngine Account} (Ok a, t') drawn → IsDrawn q lists t
-  commit_accepted t t' q lists a left is drawn_so =
+      (q, lists) ≡ answer_and_lists rs ws (Ok a) → ◌≡◌ {A = WithEngine Account} (Ok a, t') stepped → IsStepped q lists t
+  commit_accepted t t' q lists a left is stepped_so =
       let P : Result AccountHead EngineFault × CallersLists → (Result AccountHead EngineFault × CallersLists) × model.Engine = λ x. (x, t) in
       let Q : model.Engine → (Result AccountHead EngineFault × CallersLists) × model.Engine = λ u. (answer_and_lists rs ws (Ok a), u) in
-      ap P is ∙ ap Q left ∙ ap drawn_for_caller drawn_so
+      ap P is ∙ ap Q left ∙ ap stepped_for_caller stepped_so
 
-  -- The book takes the account, in every life that led to the engine.
+  -- The book takes the account, in every trace that led to the engine.
 
-  account_lawful : (a : Account) → drawn.0 ≡ Ok a → InEveryLife depth s (λ store life. lawful a ≡ true)
-  account_lawful a is store life of_depth led =
+  account_lawful : (a : Account) → stepped.0 ≡ Ok a → InEveryTrace depth s (λ store trace. lawful a ≡ true)
+  account_lawful a is store trace of_depth led =
       let c = call.Commit p l clock r w in
       let answer : answer_in (step the_rules store.depth c s) ≡ Ok a = ap (λ d. answer_in (step the_rules d c s)) of_depth ∙ is in
-      ((the_rules_lawful.one_more_call store life s c led).commits.0 p l clock r w a (ap (event c) answer)).for_the_book
+      ((the_rules_lawful.one_more_call store trace s c led).commits.0 p l clock r w a (ap (event c) answer)).for_the_book
 
   abbrev IsLawful : CallersLists → AccountHead → Type 0
-  IsLawful lists h = InEveryLife depth s (λ store life. lawful (account_of h lists.0 lists.1) ≡ true)
+  IsLawful lists h = InEveryTrace depth s (λ store trace. lawful (account_of h lists.0 lists.1) ≡ true)
 
   answer_lawful :
       (q : Result AccountHead EngineFault) (lists : CallersLists) (d : Result Account EngineFault) → (q, lists) ≡ answer_and_lists rs ws d →
-      drawn.0 ≡ d → IfOk q (IsLawful lists)
+      stepped.0 ≡ d → IfOk q (IsLawful lists)
   answer_lawful (Ok h) lists (Ok a) is same =
-      λ store life of_depth led. ap lawful (lists_tell rs ws a h lists is) ∙ account_lawful a same store life of_depth led
+      λ store trace of_depth led. ap lawful (lists_show rs ws a h lists is) ∙ account_lawful a same store trace of_depth led
   answer_lawful (Ok h) lists (Err f) is same = not_both h f (ap (λ t. t.0) is)
   answer_lawful (Err f) lists d is same = tt
 
   pub for_the_book :
-      (q : Result AccountHead EngineFault) (lists : CallersLists) (t : model.Engine) → IsDrawn q lists t → IfOk q (IsLawful lists)
-  for_the_book q lists t handed = answer_lawful q lists drawn.0 (ap (λ x. x.0) handed) refl
+      (q : Result AccountHead EngineFault) (lists : CallersLists) (t : model.Engine) → IsStepped q lists t → IfOk q (IsLawful lists)
+  for_the_book q lists t handed = answer_lawful q lists stepped.0 (ap (λ x. x.0) handed) refl
 
 -- The leg that commits.
 
@@ -163,7 +163,7 @@ fitting false fits leg o f g e = absurd (cc e)
 there_is_room :
     (n : Named) (r w : ℕ) (c : model.Chain) (state : model.LegState) (o : model.OpenLeg) →
     on_open {Z = Result model.OpenLeg EngineFault} state (Err (chain_fault n.place n.leg n.key NotOpen)) (λ leg.
-    if only_open n.leg c.legs legs
+    if only_open n.leg c.legs leg_count
     then if nat_le (length c.readings) r && nat_le (length leg.writes) w then Ok leg else Err (chain_fault n.place n.leg n.key TooShort)
     else Err (chain_fault n.place n.leg n.key AnotherLegOpen))
     ≡ Ok o →

@@ -7,13 +7,13 @@ use Rattle.snapshot.specs.declared.account.Write.{Write}
 use Rattle.snapshot.specs.declared.fault.EngineFault.{EngineFault}
 use Rattle.snapshot.specs.declared.fault.Fault.{Fault}
 use Rattle.store.specs.Meaning.{Meaning, commit_answer}
-use Rattle.lives.specs.Engines.{OpenLeg, Chain, Notices, Engine, with_place, with_notices, with_store}
-use Rattle.lives.specs.Rules.{the_rules}
-use Rattle.lives.specs.Steps.{Outcome, account_for, handed_to_store}
-use Rattle.lives.specs.declared.calls.Call.TheVariants as call
+use Rattle.engine_model.specs.Engines.{OpenLeg, Chain, Notices, Engine, with_place, with_notices, with_store}
+use Rattle.engine_model.specs.Rules.{the_rules}
+use Rattle.engine_model.specs.Steps.{StepOutcome, account_for, handed_to_store}
+use Rattle.engine_model.specs.declared.calls.Call.TheVariants as call
 use Rattle.engine.specs.Commits.{committing_leg, given_to_store}
 use Rattle.engine.specs.Legs.{on_result}
-use Rattle.engine.specs.StepOf.{outcome_of, step_of}
+use Rattle.engine.specs.StepOf.{answer_and_engine, step_of}
 use Rattle.engine.specs.Naming.{naming}
 use Rattle.engine.proofs.ChainSteps.{WithEngine}
 use Rattle.engine.proofs.BothSides.{both_check, both_open, both_result, where_passed, where_leg}
@@ -38,10 +38,10 @@ commit_made depth p l clock c s leg =
 handed :
     (depth p l clock : ℕ) (c : Chain) (leg : OpenLeg) (ws : List Write) (s : Engine) →
     account_made p l c leg s (given_to_store depth clock ws s.caches (s.store, s.notices))
-    ≡ outcome_of s (handed_to_store the_rules depth p l clock c leg ws s)
+    ≡ answer_and_engine s (handed_to_store the_rules depth p l clock c leg ws s)
 handed depth p l clock c leg [] s = refl
 handed depth p l clock c leg (w ∷ ws) s =
-    let P : WithEngine Account → Outcome Account → Type 0 = λ made o. made ≡ outcome_of s o in
+    let P : WithEngine Account → StepOutcome Account → Type 0 = λ made o. made ≡ answer_and_engine s o in
     both_result P (account_made p l c leg s) (commit_answer depth clock (w ∷ ws) s.store) _ _ _ _ (λ f. refl) (λ t. refl)
 
 pub commit_is_step :
@@ -49,7 +49,7 @@ pub commit_is_step :
     commit_made depth p l clock c s (committing_leg (naming p l not_named) r w c) ≡ step_of depth (call.Commit p l clock r w) s
 commit_is_step depth p l clock r w s c range here =
     let of : Result OpenLeg EngineFault → WithEngine Account = commit_made depth p l clock c s in
-    let P : Result OpenLeg EngineFault → Outcome Account → Type 0 = λ leg o. of leg ≡ outcome_of s o in
+    let P : Result OpenLeg EngineFault → StepOutcome Account → Type 0 = λ leg o. of leg ≡ answer_and_engine s o in
     let leg : Result OpenLeg EngineFault = committing_leg (naming p l not_named) r w c in
     where_passed (P leg) _ _ _ range
     (where_leg (P leg) _ l _ _ c here

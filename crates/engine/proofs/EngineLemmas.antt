@@ -12,18 +12,18 @@ use Rattle.engine_parts.specs.WaitingNotices.{notices_of}
 use Rattle.engine_parts.specs.declared.cache.Cache.{Cache}
 use Rattle.engine_parts.specs.declared.notices.Notices.{Notices}
 use Rattle.engine_parts.proofs.ItemLemmas.{item_set, item_there}
-use Rattle.lives.specs.Caches as model_caches
-use Rattle.lives.specs.Engines as model
+use Rattle.engine_model.specs.Caches as model_caches
+use Rattle.engine_model.specs.Engines as model
 use Rattle.engine.specs.Chains.{chain_of}
 use Rattle.engine.specs.Engines.{engine_of}
 use Rattle.engine.specs.Naming.{in_range_or_refused}
-use Rattle.engine.specs.StepOf.{outcome_of}
-use Rattle.engine.specs.Workers.{number_of}
+use Rattle.engine.specs.StepOf.{answer_and_engine}
+use Rattle.engine.specs.Workers.{worker_number}
 use Rattle.engine.specs.declared.chain.Chain.{Chain}
 use Rattle.engine.specs.declared.engine.Engine.{Engine}
 use Rattle.engine.specs.declared.named.Named.{Named}
 use Rattle.engine.specs.declared.worker.Worker.{Worker}
-use Rattle.lives.specs.Steps.{Outcome, check, with_chain, with_open_leg, chain_fault}
+use Rattle.engine_model.specs.Steps.{StepOutcome, check, with_chain, with_open_leg, chain_fault}
 use Rattle.engine.proofs.ReadStep.{with_caches}
 use Rattle.engine.proofs.PlainSteps.{ComesTo, out_of_range, no_chain, no_chain_at_all}
 use Rattle.engine.proofs.ChainSteps.{WithChain, WithEngine, IsStepOf}
@@ -60,30 +60,30 @@ worker_or_refused n w = result_and (in_range_or_refused n (is_worker w)) (Ok w)
 
 worker_fails :
     (n : Named) (b : Bool) (w : ℕ) (r : Result Worker EngineFault) (f : EngineFault) →
-    result_map_both number_of (λ g. g) r ≡ result_and (in_range_or_refused n b) (Ok w) → r ≡ Err f →
+    result_map_both worker_number (λ g. g) r ≡ result_and (in_range_or_refused n b) (Ok w) → r ≡ Err f →
     (b ≡ false) × (f ≡ chain_fault n.place n.leg n.key OutOfRange)
-worker_fails n true w r f found is = absurd (cc (ap (result_map_both number_of (λ g. g)) is))
-worker_fails n false w r f found is = (refl, cc (ap (result_map_both number_of (λ g. g)) is))
+worker_fails n true w r f found is = absurd (cc (ap (result_map_both worker_number (λ g. g)) is))
+worker_fails n false w r f found is = (refl, cc (ap (result_map_both worker_number (λ g. g)) is))
 
 -- no worker has the number
 pub no_worker :
     (n m : Named) (w : ℕ) (r : Result Worker EngineFault) (f : EngineFault) → n ≡ m →
-    result_map_both number_of (λ g. g) r ≡ worker_or_refused n w → r ≡ Err f →
+    result_map_both worker_number (λ g. g) r ≡ worker_or_refused n w → r ≡ Err f →
     (is_worker w ≡ false) × (f ≡ chain_fault m.place m.leg m.key OutOfRange)
 no_worker n m w r f same found is =
     worker_fails m (is_worker w) w r f (found ∙ ap (λ k. worker_or_refused k w) same) is
 
 worker_passes :
     (n : Named) (b : Bool) (w : ℕ) (r : Result Worker EngineFault) (x : Worker) →
-    result_map_both number_of (λ g. g) r ≡ result_and (in_range_or_refused n b) (Ok w) → r ≡ Ok x →
-    (b ≡ true) × (number_of x ≡ w)
-worker_passes n true w r x found is = (refl, cc (ap (result_map_both number_of (λ g. g)) is))
-worker_passes n false w r x found is = absurd (cc (ap (result_map_both number_of (λ g. g)) is))
+    result_map_both worker_number (λ g. g) r ≡ result_and (in_range_or_refused n b) (Ok w) → r ≡ Ok x →
+    (b ≡ true) × (worker_number x ≡ w)
+worker_passes n true w r x found is = (refl, cc (ap (result_map_both worker_number (λ g. g)) is))
+worker_passes n false w r x found is = absurd (cc (ap (result_map_both worker_number (λ g. g)) is))
 
 -- one has it
 pub worker_is :
     (n : Named) (w : ℕ) (r : Result Worker EngineFault) (x : Worker) →
-    result_map_both number_of (λ g. g) r ≡ worker_or_refused n w → r ≡ Ok x → (is_worker w ≡ true) × (number_of x ≡ w)
+    result_map_both worker_number (λ g. g) r ≡ worker_or_refused n w → r ≡ Ok x → (is_worker w ≡ true) × (worker_number x ≡ w)
 worker_is n w r x found is = worker_passes n (is_worker w) w r x found is
 
 -- Places.
@@ -128,7 +128,7 @@ left_after {X} s t r step same is = ap (λ h. let u : WithEngine X = (r, h) in u
 -- Refusals at the head of a call, by the answer that it gives.
 
 pub refused_out :
-    {X : Type 0} (s : model.Engine) (ok : Bool) (r : Result X EngineFault) (f g : EngineFault) (next : Outcome X) → r ≡ Err f →
+    {X : Type 0} (s : model.Engine) (ok : Bool) (r : Result X EngineFault) (f g : EngineFault) (next : StepOutcome X) → r ≡ Err f →
     f ≡ g → ok ≡ false → ComesTo s r s (check ok g next)
 refused_out {X} s ok r f g next is same failed =
     answered s r (Err g) _ (is ∙ ap Err same) (out_of_range ok g next s failed)
@@ -138,18 +138,18 @@ module _ {S : Type 0} (meaning : S → Meaning) (e : Engine S) (p : ℕ) (within
   nothing_there none = stands meaning e p within None none
 
   pub refused_missing :
-      {X : Type 0} (ok : Bool) (f g h : EngineFault) (l : ℕ) (next : model.Chain → model.OpenLeg → Outcome X) → f ≡ h →
+      {X : Type 0} (ok : Bool) (f g h : EngineFault) (l : ℕ) (next : model.Chain → model.OpenLeg → StepOutcome X) → f ≡ h →
       ok ≡ true → get_or e.places p None ≡ None →
       ◌≡◌ {A = WithEngine X}
       (Err f, engine_of meaning (record e { places = set e.places p (get_or e.places p None) }))
-      (outcome_of (engine_of meaning e) (check ok g (with_open_leg ((engine_of meaning e).places p) l h next)))
+      (answer_and_engine (engine_of meaning e) (check ok g (with_open_leg ((engine_of meaning e).places p) l h next)))
   refused_missing {X} ok f g h l next same passed none =
       let s = engine_of meaning e in
       left_after _ s (Err f) _ (left meaning e p within)
       (answered s (Err f) (Err h) _ (ap Err same) (no_chain ok g (s.places p) l h next s passed (nothing_there none)))
 
   pub refused_at_all :
-      {X : Type 0} (ok : Bool) (f g h : EngineFault) (next : model.Chain → Outcome X) → f ≡ h → ok ≡ true →
+      {X : Type 0} (ok : Bool) (f g h : EngineFault) (next : model.Chain → StepOutcome X) → f ≡ h → ok ≡ true →
       get_or e.places p None ≡ None →
       ComesTo (engine_of meaning e) (Err f) (engine_of meaning e) (check ok g (with_chain ((engine_of meaning e).places p) h next))
   refused_at_all {X} ok f g h next same passed none =

@@ -9,4 +9,4 @@ pub mod CacheLemmas
 pub mod CommitLemmas
 pub mod CommitStep
 pub mod PerformLemmas
-pub mod LifeLemmas
+pub mod TraceLemmas

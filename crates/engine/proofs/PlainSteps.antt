@@ -7,23 +7,23 @@ use Rattle.snapshot.specs.Refusals.{not_named, own_fault, unnamed}
 use Rattle.snapshot.specs.declared.fault.EngineFault.{EngineFault}
 use Rattle.snapshot.specs.declared.fault.Layer.TheVariants as layer
 use Rattle.snapshot.specs.declared.fault.Refusal.TheVariants.{PlaceOccupied, NoSuchNotice}
-use Rattle.lives.specs.Caches.{with_notice}
-use Rattle.lives.specs.Engines.{OpenLeg, Chain, new_chain, without_notice, Engine, with_place, with_cache, with_notices}
-use Rattle.lives.specs.Steps.{Outcome, check, with_chain, with_open_leg, if_free, or_else, chain_fault}
-use Rattle.lives.specs.declared.calls.Call.TheVariants as call
-use Rattle.lives.specs.declared.records.Notice.{Notice}
-use Rattle.engine.specs.StepOf.{outcome_of, step_of}
+use Rattle.engine_model.specs.Caches.{with_notice}
+use Rattle.engine_model.specs.Engines.{OpenLeg, Chain, new_chain, without_notice, Engine, with_place, with_cache, with_notices}
+use Rattle.engine_model.specs.Steps.{StepOutcome, check, with_chain, with_open_leg, if_free, or_else, chain_fault}
+use Rattle.engine_model.specs.declared.calls.Call.TheVariants as call
+use Rattle.engine_model.specs.declared.records.Notice.{Notice}
+use Rattle.engine.specs.StepOf.{answer_and_engine, step_of}
 use Rattle.engine.proofs.ChainSteps.{WithEngine}
 
 -- this answer, and this engine after it, are what comes of a call
-abbrev pub ComesTo : {X : Type 0} → Engine → Result X EngineFault → Engine → Outcome X → Type 0
-ComesTo {X} s answer after o = ◌≡◌ {A = WithEngine X} (answer, after) (outcome_of s o)
+abbrev pub ComesTo : {X : Type 0} → Engine → Result X EngineFault → Engine → StepOutcome X → Type 0
+ComesTo {X} s answer after o = ◌≡◌ {A = WithEngine X} (answer, after) (answer_and_engine s o)
 
 -- Refusals at the head of a call. They fit each call that begins with these checks.
 
 -- a number out of range
 pub out_of_range :
-    {X : Type 0} (ok : Bool) (f : EngineFault) (next : Outcome X) (s : Engine) → ok ≡ false →
+    {X : Type 0} (ok : Bool) (f : EngineFault) (next : StepOutcome X) (s : Engine) → ok ≡ false →
     ComesTo s (Err f) s (check ok f next)
 unfolding check
 out_of_range ok f next s failed = rw failed refl
@@ -31,14 +31,14 @@ out_of_range ok f next s failed = rw failed refl
 -- no chain at the place, in a call that names a leg
 pub no_chain :
     {X : Type 0} (ok : Bool) (f : EngineFault) (o : Option Chain) (l : ℕ) (g : EngineFault)
-    (next : Chain → OpenLeg → Outcome X) (s : Engine) → ok ≡ true → o ≡ None →
+    (next : Chain → OpenLeg → StepOutcome X) (s : Engine) → ok ≡ true → o ≡ None →
     ComesTo s (Err g) s (check ok f (with_open_leg o l g next))
 unfolding check with_open_leg with_chain
 no_chain {X} ok f o l g next s passed none = rw (passed, none) refl
 
 -- no chain at the place, in a call that names none of its legs
 pub no_chain_at_all :
-    {X : Type 0} (ok : Bool) (f : EngineFault) (o : Option Chain) (g : EngineFault) (next : Chain → Outcome X) (s : Engine) →
+    {X : Type 0} (ok : Bool) (f : EngineFault) (o : Option Chain) (g : EngineFault) (next : Chain → StepOutcome X) (s : Engine) →
     ok ≡ true → o ≡ None → ComesTo s (Err g) s (check ok f (with_chain o g next))
 unfolding check with_chain
 no_chain_at_all {X} ok f o g next s passed none = rw (passed, none) refl

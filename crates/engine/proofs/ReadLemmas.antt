@@ -6,10 +6,10 @@ use Rattle.snapshot.specs.declared.account.Reading.{Reading}
 use Rattle.snapshot.specs.declared.fault.EngineFault.{EngineFault}
 use Rattle.snapshot.specs.declared.fault.Fault.{Fault}
 use Rattle.store.specs.Meaning.{Meaning, written_to}
-use Rattle.lives.specs.Caches.{Cache}
-use Rattle.lives.specs.Engines as model
-use Rattle.lives.specs.Steps.{after_reading, own_reading}
-use Rattle.lives.specs.Updates.{with_at}
+use Rattle.engine_model.specs.Caches.{Cache}
+use Rattle.engine_model.specs.Engines as model
+use Rattle.engine_model.specs.Steps.{after_reading, own_reading}
+use Rattle.engine_model.specs.Updates.{with_at}
 use Rattle.engine.specs.ChainCalls.{further_reading, after_further_read, after_read}
 use Rattle.engine.specs.Legs.{open_in}
 use Rattle.engine.specs.declared.named.Named.{Named}

@@ -7,14 +7,14 @@ use Rattle.snapshot.specs.declared.account.Reading.{Reading}
 use Rattle.snapshot.specs.declared.fault.EngineFault.{EngineFault}
 use Rattle.snapshot.specs.declared.fault.Fault.{Fault}
 use Rattle.store.specs.Meaning.{version_answer, written_to}
-use Rattle.lives.specs.Caches.{Cache, answering}
-use Rattle.lives.specs.Engines.{OpenLeg, Chain, Engine}
-use Rattle.lives.specs.Steps.{after_reading, Outcome, refused, accepted, own_reading}
-use Rattle.lives.specs.Updates.{with_at}
-use Rattle.lives.specs.declared.calls.Call.TheVariants as call
+use Rattle.engine_model.specs.Caches.{Cache, answering}
+use Rattle.engine_model.specs.Engines.{OpenLeg, Chain, Engine}
+use Rattle.engine_model.specs.Steps.{after_reading, StepOutcome, refused, accepted, own_reading}
+use Rattle.engine_model.specs.Updates.{with_at}
+use Rattle.engine_model.specs.declared.calls.Call.TheVariants as call
 use Rattle.engine.specs.ChainCalls.{after_read}
 use Rattle.engine.specs.Legs.{on_result}
-use Rattle.engine.specs.StepOf.{outcome_of, step_of}
+use Rattle.engine.specs.StepOf.{answer_and_engine, step_of}
 use Rattle.engine.specs.Naming.{naming}
 use Rattle.engine.specs.declared.named.Named.{Named}
 use Rattle.engine.proofs.ChainSteps.{WithEngine, stays}
@@ -33,22 +33,22 @@ with_caches s p made =
 abbrev pub read_placed : Engine → ℕ → WithCaches → WithEngine ℕ
 read_placed s p made = (made.0, with_caches s p made.1)
 
-abbrev ReadPlaced : Engine → ℕ → WithCaches → Outcome ℕ → Type 0
-ReadPlaced s p made o = read_placed s p made ≡ outcome_of s o
+abbrev ReadPlaced : Engine → ℕ → WithCaches → StepOutcome ℕ → Type 0
+ReadPlaced s p made o = read_placed s p made ≡ answer_and_engine s o
 
 -- an answer from the cache or the store is noted
 abbrev answer_noted : Named → OpenLeg → Chain → (ℕ → Cache) → Result Reading Fault × Cache → WithCaches
-answer_noted n leg c caches asked =
-    on_result asked.0
+answer_noted n leg c caches queried =
+    on_result queried.0
     (λ f. (Err (around_store f n.place n.leg n.key), (c, caches)))
-    (λ r. (Ok r.value, (after_reading narrowed n.leg n.key leg r c, with_at leg.worker asked.1 caches)))
+    (λ r. (Ok r.value, (after_reading narrowed n.leg n.key leg r c, with_at leg.worker queried.1 caches)))
 
 read_made :
     (depth p l k : ℕ) (s : Engine) (c : Chain) → (is_place p && is_leg l && is_key k) ≡ true → s.places p ≡ Some c →
     read_placed s p (after_read (naming p l k) s.store (c, s.caches)) ≡ step_of depth (call.Read p l k) s
 read_made depth p l k s c range here =
     let n : Named = naming p l k in
-    let P : WithCaches → Outcome ℕ → Type 0 = ReadPlaced s p in
+    let P : WithCaches → StepOutcome ℕ → Type 0 = ReadPlaced s p in
     let made : WithCaches = after_read n s.store (c, s.caches) in
     let no_change : (f : EngineFault) → P (Err f, (c, s.caches)) (refused f) = λ f. ap (λ t. (Err f, t)) (stays s p c here) in
     let known : (x : ℕ) → P (Ok x, (c, s.caches)) (accepted x s) = λ x. ap (λ t. (Ok x, t)) (stays s p c here) in
@@ -59,9 +59,9 @@ read_made depth p l k s c range here =
     both_else P of (written_to k leg.writes) _ _ _ _ (λ x. known x)
     (both_else P of (own_reading l k c.readings) _ _ _ _ (λ r. known _)
     (both_check P _ _ _ _ _ (no_change _)
-    (let asked : Result Reading Fault × Cache → WithCaches = answer_noted n leg c s.caches in
-    both_else P asked (answering leg.interval k (s.caches leg.worker)) _ _ _ _ (λ e. refl)
-    (both_result P asked (version_answer s.store k leg.interval.high) _ _ _ _ (λ f. no_change _) (λ r. refl))))))))
+    (let queried : Result Reading Fault × Cache → WithCaches = answer_noted n leg c s.caches in
+    both_else P queried (answering leg.interval k (s.caches leg.worker)) _ _ _ _ (λ e. refl)
+    (both_result P queried (version_answer s.store k leg.interval.high) _ _ _ _ (λ f. no_change _) (λ r. refl))))))))
 
 pub read_is_step :
     (depth p l k : ℕ) (s : Engine) (c : Chain) → (is_place p && is_leg l && is_key k) ≡ true → s.places p ≡ Some c →

@@ -4,7 +4,7 @@
 use Rattle.std.specs.Prelude.{ℕ, suc, if◌then◌else◌, length, Ok, Err, Result, nat_lt, ◌==◌}
 use Rattle.std.specs.Option.{option_map_or}
 use Rattle.snapshot.specs.Intervals.{narrowed}
-use Rattle.snapshot.specs.Limits.{legs, chain_readings}
+use Rattle.snapshot.specs.Limits.{leg_count, chain_readings}
 use Rattle.snapshot.specs.Refusals.{around_store}
 use Rattle.snapshot.specs.declared.account.Reading.{Reading}
 use Rattle.snapshot.specs.declared.fault.EngineFault.{EngineFault}
@@ -14,11 +14,11 @@ use Rattle.snapshot.specs.declared.fault.Refusal.TheVariants.{NotOpen, SameLeg, 
 use Rattle.snapshot.specs.declared.interval.Interval.{Interval}
 use Rattle.store.specs.Meaning.{Meaning, version_answer, written_to}
 use Rattle.engine_parts.specs.WriteSets.{fit_or_refused}
-use Rattle.lives.specs.Caches.{Cache, entry_of, answering, used_latest, with_answer}
-use Rattle.lives.specs.Engines.{LegState, OpenLeg, running, on_worker, holding, Chain, with_leg, end_leg, open_leg}
-use Rattle.lives.specs.Steps.{after_reading, chain_fault, own_reading}
-use Rattle.lives.specs.Updates.{with_at}
-use Rattle.lives.specs.WriteSets.{with_write}
+use Rattle.engine_model.specs.Caches.{Cache, entry_of, answering, used_latest, with_answer}
+use Rattle.engine_model.specs.Engines.{LegState, OpenLeg, running, on_worker, with_write_set, Chain, with_leg, end_leg, open_leg}
+use Rattle.engine_model.specs.Steps.{after_reading, chain_fault, own_reading}
+use Rattle.engine_model.specs.Updates.{with_at}
+use Rattle.engine_model.specs.WriteSets.{with_write}
 use Rattle.engine.specs.Legs.{open_in, on_result, joined_leg}
 use Rattle.engine.specs.declared.named.Named.{Named}
 
@@ -36,13 +36,13 @@ on_open state other next = option_map_or next (open_in state) other
 abbrev pub after_hand : Named → ℕ → Chain → Result ℕ EngineFault × Chain
 after_hand n w c =
     on_open (c.legs n.leg) (refused_with n c NotOpen) (λ leg.
-    if nat_lt c.opened legs then (Ok c.opened, open_leg (on_worker w leg) (end_leg n.leg c)) else refused_with n c TooManyLegs)
+    if nat_lt c.opened leg_count then (Ok c.opened, open_leg (on_worker w leg) (end_leg n.leg c)) else refused_with n c TooManyLegs)
 
 -- a leg ends, and two open at workers w and v
 abbrev pub after_fork : Named → ℕ → ℕ → Chain → Result (ℕ × ℕ) EngineFault × Chain
 after_fork n w v c =
     on_open (c.legs n.leg) (refused_with n c NotOpen) (λ leg.
-    if nat_lt (suc c.opened) legs
+    if nat_lt (suc c.opened) leg_count
     then (Ok (c.opened, suc c.opened), open_leg (on_worker v leg) (open_leg (on_worker w leg) (end_leg n.leg c)))
     else refused_with n c TooManyLegs)
 
@@ -53,7 +53,7 @@ after_join n j w c =
     on_open (c.legs j) (refused_with n c NotOpen) (λ other.
     if n.leg == j then refused_with n c SameLeg
     else
-    if nat_lt c.opened legs
+    if nat_lt c.opened leg_count
     then
     on_result (joined_leg w leg other) (refused_with n c) (λ both.
     (Ok c.opened, open_leg both (end_leg j (end_leg n.leg c))))
@@ -66,7 +66,7 @@ abbrev pub after_write : Named → ℕ → Chain → Result (Unit {0}) EngineFau
 after_write n x c =
     on_open (c.legs n.leg) (refused_with n c NotOpen) (λ leg.
     on_result (fit_or_refused (with_write (record { key = n.key; value = x }) leg.writes)) (refused_with n c) (λ ws.
-    (Ok tt, with_leg n.leg (running (holding ws leg)) c)))
+    (Ok tt, with_leg n.leg (running (with_write_set ws leg)) c)))
 
 -- Reads.
 

@@ -1,7 +1,7 @@
 -- Commits: which leg can commit, what the store and the notices make of its writes, and what is handed back to the caller.
 use Rattle.std.specs.Prelude.{ℕ, if◌then◌else◌, ◌&&◌, List, [], ◌∷◌, length, Ok, Err, Result, nat_le}
 use Rattle.snapshot.specs.Accounts.{Account, head_of}
-use Rattle.snapshot.specs.Limits.{legs}
+use Rattle.snapshot.specs.Limits.{leg_count}
 use Rattle.snapshot.specs.Overwriting.{overwritten}
 use Rattle.snapshot.specs.declared.account.AccountHead.{AccountHead}
 use Rattle.snapshot.specs.declared.account.ChainReading.{ChainReading}
@@ -10,10 +10,10 @@ use Rattle.snapshot.specs.declared.fault.EngineFault.{EngineFault}
 use Rattle.snapshot.specs.declared.fault.Fault.{Fault}
 use Rattle.snapshot.specs.declared.fault.Refusal.TheVariants.{NotOpen, AnotherLegOpen, TooShort}
 use Rattle.store.specs.Meaning.{Meaning, commit_answer, with_writes}
-use Rattle.lives.specs.Caches.{Cache, holds}
-use Rattle.lives.specs.Engines.{OpenLeg, Chain, Notices}
-use Rattle.lives.specs.Notices.{raise_all}
-use Rattle.lives.specs.Steps.{chain_fault, only_open}
+use Rattle.engine_model.specs.Caches.{Cache, holds}
+use Rattle.engine_model.specs.Engines.{OpenLeg, Chain, Notices}
+use Rattle.engine_model.specs.Notices.{raise_all}
+use Rattle.engine_model.specs.Steps.{chain_fault, only_open}
 use Rattle.engine.specs.ChainCalls.{on_open}
 use Rattle.engine.specs.Legs.{on_result}
 use Rattle.engine.specs.declared.named.Named.{Named}
@@ -23,7 +23,7 @@ abbrev pub committing_leg : Named → ℕ → ℕ → Chain → Result OpenLeg E
 committing_leg n r w c =
     let no = chain_fault n.place n.leg n.key in
     on_open (c.legs n.leg) (Err (no NotOpen)) (λ leg.
-    if only_open n.leg c.legs legs
+    if only_open n.leg c.legs leg_count
     then if nat_le (length c.readings) r && nat_le (length leg.writes) w then Ok leg else Err (no TooShort)
     else Err (no AnotherLegOpen))
 

@@ -9,10 +9,10 @@ use Rattle.store.specs.Meaning.{Meaning}
 use Rattle.engine_parts.specs.Lists.{item_at}
 use Rattle.engine_parts.specs.Caches.{caches_of}
 use Rattle.engine_parts.specs.WaitingNotices.{notices_of}
-use Rattle.lives.specs.Engines as model
-use Rattle.lives.specs.Steps.{AnswerTo}
-use Rattle.lives.specs.declared.calls.Call.{Call}
-use Rattle.lives.specs.declared.calls.Call.TheVariants as call
+use Rattle.engine_model.specs.Engines as model
+use Rattle.engine_model.specs.Steps.{AnswerTo}
+use Rattle.engine_model.specs.declared.calls.Call.{Call}
+use Rattle.engine_model.specs.declared.calls.Call.TheVariants as call
 use Rattle.engine.specs.Chains.{chain_of}
 use Rattle.engine.specs.Commits.{answer_and_lists}
 use Rattle.engine.specs.StepOf.{step_of}
@@ -46,7 +46,7 @@ abbrev pub IsCommit :
     {S : Type 0} → (S → Meaning) → (depth place leg clock r w : ℕ) → Engine S → CallersLists → Result AccountHead EngineFault → CallersLists →
     Engine S → Type 0
 IsCommit meaning depth place leg clock r w before lists answer lists_after after =
-    let drawn = step_of depth (call.Commit place leg clock r w) (engine_of meaning before) in
+    let stepped = step_of depth (call.Commit place leg clock r w) (engine_of meaning before) in
     ◌≡◌ {A = (Result AccountHead EngineFault × CallersLists) × model.Engine}
     ((answer, lists_after), engine_of meaning after)
-    (answer_and_lists lists.0 lists.1 drawn.0, drawn.1)
+    (answer_and_lists lists.0 lists.1 stepped.0, stepped.1)

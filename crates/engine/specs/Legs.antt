@@ -5,9 +5,9 @@ use Rattle.snapshot.specs.declared.account.Write.{Write}
 use Rattle.snapshot.specs.declared.fault.Refusal.{Refusal}
 use Rattle.snapshot.specs.declared.fault.Refusal.TheVariants.{NotOpen}
 use Rattle.engine_parts.specs.WriteSets.{writes_of, fit_or_refused}
-use Rattle.lives.specs.Engines as model
-use Rattle.lives.specs.WriteSets.{with_write, united}
-use Rattle.engine.specs.Workers.{number_of}
+use Rattle.engine_model.specs.Engines as model
+use Rattle.engine_model.specs.WriteSets.{with_write, united}
+use Rattle.engine.specs.Workers.{worker_number}
 use Rattle.engine.specs.declared.leg.Leg.{Leg}
 use Rattle.engine.specs.declared.leg.Leg.TheVariants as leg
 use Rattle.engine.specs.declared.leg.LegCall.{LegCall}
@@ -16,7 +16,7 @@ use Rattle.engine.specs.declared.leg.OpenLeg.{OpenLeg}
 
 -- a leg that is open, as the model tells it
 abbrev pub open_leg_of : OpenLeg → model.OpenLeg
-open_leg_of o = record { worker = number_of o.worker; interval = o.interval; writes = writes_of o.writes }
+open_leg_of o = record { worker = worker_number o.worker; interval = o.interval; writes = writes_of o.writes }
 
 -- a leg by its number: unused, running or ended
 abbrev pub leg_of : Leg → model.LegState
@@ -32,16 +32,16 @@ open_in model.ended = None
 
 -- an open leg after a write, if the write set can take it
 abbrev pub leg_with_writes : model.OpenLeg → Result (List Write) Refusal → Result (Unit {0}) Refusal × model.LegState
-leg_with_writes l (Ok ws) = (Ok tt, model.running (model.holding ws l))
+leg_with_writes l (Ok ws) = (Ok tt, model.running (model.with_write_set ws l))
 leg_with_writes l (Err r) = (Err r, model.running l)
 
 -- what becomes of a leg at a call: narrowed, written to or ended, or refused where it is not open
-abbrev pub after_call : LegCall → model.LegState → Result (Unit {0}) Refusal × model.LegState
-after_call c model.unused = (Err NotOpen, model.unused)
-after_call (call.Narrow r) (model.running l) = (Ok tt, model.running (model.within (narrowed l.interval r) l))
-after_call (call.Write w) (model.running l) = leg_with_writes l (fit_or_refused (with_write w l.writes))
-after_call call.End (model.running l) = (Ok tt, model.ended)
-after_call c model.ended = (Err NotOpen, model.ended)
+abbrev pub leg_after : LegCall → model.LegState → Result (Unit {0}) Refusal × model.LegState
+leg_after c model.unused = (Err NotOpen, model.unused)
+leg_after (call.Narrow r) (model.running l) = (Ok tt, model.running (model.with_interval (narrowed l.interval r) l))
+leg_after (call.Write w) (model.running l) = leg_with_writes l (fit_or_refused (with_write w l.writes))
+leg_after call.End (model.running l) = (Ok tt, model.ended)
+leg_after c model.ended = (Err NotOpen, model.ended)
 
 -- what is made of a result, or of its refusal
 abbrev pub on_result : {Y E Z : Type 0} → Result Y E → (E → Z) → (Y → Z) → Z

@@ -3,7 +3,7 @@ use Rattle.std.specs.Prelude.{ℕ, Bool, if◌then◌else◌, ◌&&◌, Ok, Err,
 use Rattle.snapshot.specs.Limits.{is_key, is_place, is_leg}
 use Rattle.snapshot.specs.declared.fault.EngineFault.{EngineFault}
 use Rattle.snapshot.specs.declared.fault.Refusal.TheVariants.{OutOfRange}
-use Rattle.lives.specs.Steps.{chain_fault}
+use Rattle.engine_model.specs.Steps.{chain_fault}
 use Rattle.engine.specs.declared.named.Named.{Named}
 
 -- the place, leg and key that a call names

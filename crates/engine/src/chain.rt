@@ -2,17 +2,17 @@
 ghost use Rattle.std.specs.Option.{option_map, option_copied};
 ghost use Rattle.std.specs.Result.{result_map_both};
 ghost use Rattle.std.specs.Prelude.{◌≡◌, ◌<◌, ◌≤◌, length, map, Ok, OnOk, OnErr, OnSome, nat_lt};
-ghost use Rattle.snapshot.specs.Limits.{chain_readings, legs};
-ghost use Rattle.lives.specs.Engines as model;
-ghost use Rattle.engine_parts.specs.Lists.{entries};
+ghost use Rattle.snapshot.specs.Limits.{chain_readings, leg_count};
+ghost use Rattle.engine_model.specs.Engines as model;
+ghost use Rattle.engine_parts.specs.Lists.{elements_of};
 ghost use Rattle.engine_parts.specs.Caches.{cache_of, caches_of};
 ghost use Rattle.engine.specs.ChainCalls.{after_hand, after_fork, after_join, after_write, further_reading, after_read};
 ghost use Rattle.engine.specs.Chains.{chain_of};
 ghost use Rattle.engine.specs.Commits.{committing_leg, answer_and_lists};
-ghost use Rattle.lives.specs.Steps.{account_for, only_open};
+ghost use Rattle.engine_model.specs.Steps.{account_for, only_open};
 ghost use Rattle.snapshot.specs.Overwriting.{overwritten};
-ghost use Rattle.engine.specs.Legs.{open_leg_of, open_in, after_call};
-ghost use Rattle.engine.specs.Workers.{number_of};
+ghost use Rattle.engine.specs.Legs.{open_leg_of, open_in, leg_after};
+ghost use Rattle.engine.specs.Workers.{worker_number};
 ghost use Rattle.engine.specs.declared.leg.LegCall.TheVariants as call;
 
 use crate::leg::{Leg, LegCall, OpenLeg};
@@ -21,7 +21,7 @@ use crate::worker::Worker;
 use engine_parts::cache::{CACHES, Cache};
 use engine_parts::list::BoundedList;
 use engine_parts::write_set::WriteSet;
-use lives::records::{CacheEntry, LegAndKey, LegReading};
+use engine_model::records::{CacheEntry, LegAndKey, LegReading};
 use snapshot::account::{AccountHead, ChainReading, Reading, Write};
 use snapshot::fault::{EngineFault, Fault, Refusal};
 use snapshot::interval::Interval;
@@ -49,7 +49,7 @@ pub(crate) struct Chain {
 impl Chain {
     // A chain whose leg 0 has just been opened at a worker.
     pub(crate) fn new(worker: Worker) -> Chain
-        ensures { chain_of result ≡ model.new_chain (number_of worker) }
+        ensures { chain_of result ≡ model.new_chain (worker_number worker) }
     {
         let mut chain = Chain {
             legs: [Leg::Unused; ALL_LEGS],
@@ -66,7 +66,7 @@ impl Chain {
 
     // Ends a leg and opens the next at a worker, with the same interval and write set.
     pub(crate) fn hand(&mut self, named: Named, worker: Worker) -> Result<u8, EngineFault>
-        ensures made { (result, chain_of self.new) ≡ after_hand named (number_of worker) (chain_of self.old) }
+        ensures made { (result, chain_of self.new) ≡ after_hand named (worker_number worker) (chain_of self.old) }
         ensures unchanged { OnErr result (self.new ≡ self.old) }
     {
         let Some(open) = self.open_leg(named.leg) else {
@@ -87,7 +87,7 @@ impl Chain {
         first: Worker,
         second: Worker,
     ) -> Result<(u8, u8), EngineFault>
-        ensures made { (result, chain_of self.new) ≡ after_fork named (number_of first) (number_of second) (chain_of self.old) }
+        ensures made { (result, chain_of self.new) ≡ after_fork named (worker_number first) (worker_number second) (chain_of self.old) }
         ensures unchanged { OnErr result (self.new ≡ self.old) }
     {
         let Some(open) = self.open_leg(named.leg) else {
@@ -118,7 +118,7 @@ impl Chain {
         second: u8,
         worker: Worker,
     ) -> Result<u8, EngineFault>
-        ensures made { (result, chain_of self.new) ≡ after_join named second (number_of worker) (chain_of self.old) }
+        ensures made { (result, chain_of self.new) ≡ after_join named second (worker_number worker) (chain_of self.old) }
         ensures unchanged { OnErr result (self.new ≡ self.old) }
     {
         let Some(open) = self.open_leg(named.leg) else {
@@ -222,7 +222,7 @@ impl Chain {
 
     // Is no leg but this one open?
     fn is_only_open(&self, leg: u8) -> bool
-        ensures { result ≡ only_open leg (chain_of self.now).legs legs }
+        ensures { result ≡ only_open leg (chain_of self.now).legs leg_count }
     {
         let mut only = true;
         for number in 0..LEGS {
@@ -277,8 +277,8 @@ impl Chain {
     // Narrows the leg that made a reading, and adds the reading to those of the chain.
     fn note(&mut self, reading: LegReading)
         requires within { reading.leg < 16 }
-        requires room { length (entries self.old.readings) < 32 }
-        ensures { chain_of self.new ≡ model.add_reading reading (model.with_leg reading.leg (after_call (call.Narrow reading.made.reading) ((chain_of self.old).legs reading.leg)).1 (chain_of self.old)) }
+        requires room { length (elements_of self.old.readings) < 32 }
+        ensures { chain_of self.new ≡ model.add_reading reading (model.with_leg reading.leg (leg_after (call.Narrow reading.made.reading) ((chain_of self.old).legs reading.leg)).1 (chain_of self.old)) }
     {
         let LegReading { leg, made } = reading;
         let _ = self.change(
@@ -302,8 +302,8 @@ impl Chain {
     // nor a narrower interval, so that a caller may drop that answer.
     fn change(&mut self, leg: u8, call: LegCall) -> Result<(), Refusal>
         requires { leg < 16 }
-        ensures answer { result ≡ (after_call call ((chain_of self.old).legs leg)).0 }
-        ensures after { chain_of self.new ≡ model.with_leg leg (after_call call ((chain_of self.old).legs leg)).1 (chain_of self.old) }
+        ensures answer { result ≡ (leg_after call ((chain_of self.old).legs leg)).0 }
+        ensures after { chain_of self.new ≡ model.with_leg leg (leg_after call ((chain_of self.old).legs leg)).1 (chain_of self.old) }
         ensures opened { self.new.opened ≡ self.old.opened }
         ensures unchanged { OnErr result (self.new ≡ self.old) }
     {
@@ -324,7 +324,7 @@ impl Chain {
 
     // Adds a reading to those of the chain, if there is room.
     fn add_reading(&mut self, reading: LegReading)
-        requires { length (entries self.old.readings) < 32 }
+        requires { length (elements_of self.old.readings) < 32 }
         ensures { chain_of self.new ≡ model.add_reading reading (chain_of self.old) }
     {
         let _ = self.readings.push(reading);

@@ -1,18 +1,18 @@
 // The engine and its calls. A refused call answers its fault and leaves the engine as it was.
 ghost use Rattle.std.specs.Prelude.{◌≡◌, ◌≤◌, min, true, [], length, Ok, IfOk, OnErr};
 ghost use Rattle.snapshot.specs.Accounts.{account_of, lawful};
-ghost use Rattle.engine.specs.EngineLaw.{InEveryLife, OverNewStore};
-ghost use Rattle.lives.specs.Law.{LedTo};
-ghost use Rattle.lives.specs.Rules.{the_rules};
+ghost use Rattle.engine.specs.EngineLaw.{InEveryTrace, OverNewStore};
+ghost use Rattle.engine_model.specs.Law.{LedTo};
+ghost use Rattle.engine_model.specs.Rules.{the_rules};
 ghost use Rattle.snapshot.specs.Limits.{chain_readings, write_keys};
 ghost use Rattle.snapshot.specs.Refusals.{not_named, own_fault, unnamed};
 ghost use Rattle.engine.specs.Naming.{naming};
 ghost use Rattle.snapshot.specs.declared.fault.Layer.TheVariants as layer;
 ghost use Rattle.snapshot.specs.declared.fault.Refusal.TheVariants.{NoSuchNotice};
-ghost use Rattle.lives.specs.Caches.{with_notice};
-ghost use Rattle.lives.specs.Engines as model;
-ghost use Rattle.lives.specs.Updates.{with_at};
-ghost use Rattle.lives.specs.declared.calls.Call.TheVariants as call;
+ghost use Rattle.engine_model.specs.Caches.{with_notice};
+ghost use Rattle.engine_model.specs.Engines as model;
+ghost use Rattle.engine_model.specs.Updates.{with_at};
+ghost use Rattle.engine_model.specs.declared.calls.Call.TheVariants as call;
 ghost use Rattle.engine_parts.specs.Caches.{caches_of};
 ghost use Rattle.engine.specs.Commits.{given_to_store};
 ghost use Rattle.engine_parts.specs.WaitingNotices.{notices_of};
@@ -22,7 +22,7 @@ use crate::chain::{Chain, Room};
 use crate::named::Named;
 use engine_parts::cache::{CACHES, Cache};
 use engine_parts::notices::Notices;
-use lives::records::Notice;
+use engine_model::records::Notice;
 use snapshot::account::{AccountHead, ChainReading, Write};
 use snapshot::fault::{EngineFault, Fault, Layer, Refusal};
 use snapshot::limits::{PLACES, is_leg, is_worker};
@@ -41,7 +41,7 @@ pub struct Engine<S> {
 }
 
 impl<S: Store> Engine<S> {
-    // An engine over a store, without chains, entries and notices. Over a new store, a life begins here.
+    // An engine over a store, without chains, entries and notices. Over a new store, a trace begins here.
     pub fn new(store: S) -> Engine<S>
         ensures value { engine_of S.Reads.meaning result ≡ model.new_engine (S.Reads.meaning store) }
         ensures begins { OverNewStore S.Store.depth (S.Reads.meaning store) (λ new. LedTo the_rules new [] (engine_of S.Reads.meaning result)) }
@@ -162,7 +162,7 @@ impl<S: Store> Engine<S> {
 
     // Commits a chain by its only open leg: the store takes the leg's writes, their notices are raised, and the place is free
     // again. Without writes the store is not asked, and the clock reading is not looked at. Fills the starts of the two lists
-    // with the chain's readings in order and the writes, and leaves their rest; answers the account's five numbers. In every life
+    // with the chain's readings in order and the writes, and leaves their rest; answers the account's five numbers. In every trace
     // that led to the engine, the book takes the account. Refused: 1 place or leg out of range, 3 that leg is not open, 9 another
     // leg is open, 10 a list is too short, and by the store 12 the clock reading is too high, 13 no time is left, 14 there is no
     // room for more versions.
@@ -175,7 +175,7 @@ impl<S: Store> Engine<S> {
         writes: &mut [Write],
     ) -> Result<AccountHead, EngineFault>
         ensures step { IsCommit S.Reads.meaning S.Store.depth place leg clock (length readings.old) (length writes.old) self.old (readings.old, writes.old) result (readings.new, writes.new) self.new }
-        ensures lawful { IfOk result (λ head. InEveryLife S.Store.depth (engine_of S.Reads.meaning self.old) (λ store life. lawful (account_of head readings.new writes.new) ≡ true)) }
+        ensures lawful { IfOk result (λ head. InEveryTrace S.Store.depth (engine_of S.Reads.meaning self.old) (λ store trace. lawful (account_of head readings.new writes.new) ≡ true)) }
         ensures unchanged { OnErr result (self.new ≡ self.old) }
         ensures readings_unchanged { OnErr result (readings.new ≡ readings.old) }
         ensures writes_unchanged { OnErr result (writes.new ≡ writes.old) }
@@ -249,7 +249,7 @@ impl<S: Store> Engine<S> {
         let Some(notice) = self.notices.get(position) else {
             return Err(no_such_notice());
         };
-        tell(&mut self.caches, notice);
+        notify(&mut self.caches, notice);
         Ok(())
     }
 
@@ -303,7 +303,7 @@ fn give_to_store<S: Store>(
 }
 
 // The cache of a notice's worker takes it. A notice of a worker that is not one of the eight reaches no cache.
-fn tell(caches: &mut [Cache; CACHES], notice: Notice)
+fn notify(caches: &mut [Cache; CACHES], notice: Notice)
     ensures { caches_of caches.new ≡ with_at notice.worker (with_notice notice (caches_of caches.old notice.worker)) (caches_of caches.old) }
 {
     if is_worker(notice.worker) {

@@ -2,8 +2,8 @@
 ghost use Rattle.std.specs.Option.{option_map, option_copied};
 ghost use Rattle.std.specs.Prelude.{◌≡◌, OnErr};
 ghost use Rattle.std.specs.Result.{result_map_both};
-ghost use Rattle.engine.specs.Legs.{joined_leg, leg_of, open_leg_of, open_in, after_call};
-ghost use Rattle.engine.specs.Workers.{number_of};
+ghost use Rattle.engine.specs.Legs.{joined_leg, leg_of, open_leg_of, open_in, leg_after};
+ghost use Rattle.engine.specs.Workers.{worker_number};
 
 use crate::worker::Worker;
 use engine_parts::write_set::WriteSet;
@@ -23,7 +23,7 @@ impl OpenLeg {
     // A leg at this worker with the times of both legs and the writes of both, where a key in both has the other's value.
     // Refused where they have no time in common, or more than eight keys.
     pub(crate) fn join(&self, other: &OpenLeg, worker: Worker) -> Result<OpenLeg, Refusal>
-        ensures { result_map_both open_leg_of (λ r. r) result ≡ joined_leg (number_of worker) (open_leg_of self.now) (open_leg_of other.now) }
+        ensures { result_map_both open_leg_of (λ r. r) result ≡ joined_leg (worker_number worker) (open_leg_of self.now) (open_leg_of other.now) }
     {
         let interval = self.interval.join(other.interval)?;
         let writes = self.writes.join(&other.writes)?;
@@ -65,7 +65,7 @@ impl Leg {
     // What becomes of a leg at a call: it is narrowed, written to or ended, or refuses where it is not open.
     // A leg that refuses stays as it is.
     pub(crate) fn change(&mut self, call: LegCall) -> Result<(), Refusal>
-        ensures made { (result, leg_of self.new) ≡ after_call call (leg_of self.old) }
+        ensures made { (result, leg_of self.new) ≡ leg_after call (leg_of self.old) }
         ensures unchanged { OnErr result (self.new ≡ self.old) }
     {
         match (&mut *self, call) {

@@ -3,9 +3,9 @@ ghost use Rattle.std.specs.Prelude.{◌≡◌, Ok};
 ghost use Rattle.std.specs.Result.{result_and, result_map_both};
 ghost use Rattle.snapshot.specs.Limits.{is_worker};
 ghost use Rattle.snapshot.specs.Refusals.{not_named, around_store};
-ghost use Rattle.lives.specs.Steps.{chain_fault};
+ghost use Rattle.engine_model.specs.Steps.{chain_fault};
 ghost use Rattle.engine.specs.Naming.{naming, in_range_or_refused, place_in_range, leg_in_range, key_in_range};
-ghost use Rattle.engine.specs.Workers.{number_of};
+ghost use Rattle.engine.specs.Workers.{worker_number};
 
 use crate::worker::Worker;
 use snapshot::fault::{EngineFault, Fault, Layer, NOT_NAMED, Refusal};
@@ -71,7 +71,7 @@ impl Named {
 
     // The worker of this number, or the refusal where there is none.
     pub(crate) fn worker(self, number: u8) -> Result<Worker, EngineFault>
-        ensures { result_map_both number_of (λ f. f) result ≡ result_and (in_range_or_refused self (is_worker number)) (Ok number) }
+        ensures { result_map_both worker_number (λ f. f) result ≡ result_and (in_range_or_refused self (is_worker number)) (Ok number) }
     {
         match Worker::numbered(number) {
             Some(worker) => Ok(worker),

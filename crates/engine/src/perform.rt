@@ -1,27 +1,27 @@
 // The twelve calls as one, which takes the call as a value.
 ghost use Rattle.std.specs.Prelude.{◌≡◌, OnErr};
-ghost use Rattle.lives.specs.declared.calls.Call.TheVariants as call;
+ghost use Rattle.engine_model.specs.declared.calls.Call.TheVariants as call;
 ghost use Rattle.engine.specs.Engines.{engine_of, IsStep};
-ghost use Rattle.engine.specs.EngineLaw.{GoesOn, InEveryLife};
+ghost use Rattle.engine.specs.EngineLaw.{ExtendsTrace, InEveryTrace};
 ghost use Rattle.engine.specs.Performing.{performed};
 
 use crate::answer::{Answer, CommittedAccount};
 use crate::chain::Room;
 use crate::engine::Engine;
 use crate::named::Named;
-use lives::calls::Call;
+use engine_model::calls::Call;
 use snapshot::account::{NO_READING, NO_WRITE};
 use snapshot::fault::EngineFault;
 use snapshot::limits::{CHAIN_READINGS, WRITE_KEYS};
 use store::traits::Store;
 
 impl<S: Store> Engine<S> {
-    // Makes the call. Refused as the call of that name is. Every life that led to the engine goes on by this call and its
-    // answer, and keeps the law of lives.
+    // Makes the call. Refused as the call of that name is. Every trace that led to the engine goes on by this call and its
+    // answer, and keeps the law of traces.
     pub fn perform(&mut self, call: Call) -> Result<Answer, EngineFault>
         ensures step { (result, engine_of S.Reads.meaning self.new) ≡ performed S.Store.depth call (engine_of S.Reads.meaning self.old) }
         ensures unchanged { OnErr result (self.new ≡ self.old) }
-        ensures law { InEveryLife S.Store.depth (engine_of S.Reads.meaning self.old) (λ store life. GoesOn store life call result (engine_of S.Reads.meaning self.new)) }
+        ensures law { InEveryTrace S.Store.depth (engine_of S.Reads.meaning self.old) (λ store trace. ExtendsTrace store trace call result (engine_of S.Reads.meaning self.new)) }
     {
         self.dispatch(call)
     }

@@ -1,27 +1,27 @@
 // A list of calls on a new engine.
 ghost use Rattle.std.specs.Prelude.{◌≡◌, ◌+◌, ◌≤◌, true, ◌++◌, length, is_ok, vec_len, vec_capacity, MatchResult, OnOk};
-ghost use Rattle.lives.specs.Engines.{new_engine};
+ghost use Rattle.engine_model.specs.Engines.{new_engine};
 ghost use Rattle.engine.specs.Engines.{engine_of};
 ghost use Rattle.engine.specs.EngineLaw.{RunKeepsLaw};
-ghost use Rattle.engine.specs.Performing.{after_calls, answers_of};
+ghost use Rattle.engine.specs.Performing.{engine_after_calls, answers_to};
 
 use crate::answer::Answer;
 use crate::engine::Engine;
-use lives::calls::Call;
+use engine_model::calls::Call;
 use snapshot::fault::EngineFault;
 use std::alloc::AllocError;
 use store::traits::Store;
 
 // Performs the calls in order on a new engine over the store, adds their answers to the list, and hands back the engine.
 // Succeeds wherever the list has room for the answers; else it may fail, for want of memory, and then no call has been
-// performed. Where the store is new, the calls with their answers are a life that keeps the law of lives.
+// performed. Where the store is new, the calls with their answers are a trace that keeps the law of traces.
 pub fn run<S: Store>(
     store: S,
     calls: &[Call],
     answers: &mut Vec<Result<Answer, EngineFault>>,
 ) -> (Engine<S>, Result<(), AllocError>)
-    ensures answers { MatchResult result.1 (λ _. answers.new.items ≡ answers.old.items ++ answers_of S.Store.depth calls.now (new_engine (S.Reads.meaning store))) (λ _. answers.new.items ≡ answers.old.items) }
-    ensures after { MatchResult result.1 (λ _. engine_of S.Reads.meaning result.0 ≡ after_calls S.Store.depth calls.now (new_engine (S.Reads.meaning store))) (λ _. engine_of S.Reads.meaning result.0 ≡ new_engine (S.Reads.meaning store)) }
+    ensures answers { MatchResult result.1 (λ _. answers.new.items ≡ answers.old.items ++ answers_to S.Store.depth calls.now (new_engine (S.Reads.meaning store))) (λ _. answers.new.items ≡ answers.old.items) }
+    ensures after { MatchResult result.1 (λ _. engine_of S.Reads.meaning result.0 ≡ engine_after_calls S.Store.depth calls.now (new_engine (S.Reads.meaning store))) (λ _. engine_of S.Reads.meaning result.0 ≡ new_engine (S.Reads.meaning store)) }
     ensures succeeds { vec_len answers.old + length calls.now ≤ vec_capacity answers.old → is_ok result.1 ≡ true }
     ensures law { OnOk result.1 (RunKeepsLaw S.Store.depth calls.now (S.Reads.meaning store) (engine_of S.Reads.meaning result.0)) }
 {
@@ -36,8 +36,8 @@ fn perform_all<S: Store>(
     calls: &[Call],
     answers: &mut Vec<Result<Answer, EngineFault>>,
 ) -> Result<(), AllocError>
-    ensures answers { MatchResult result (λ _. answers.new.items ≡ answers.old.items ++ answers_of S.Store.depth calls.now (engine_of S.Reads.meaning engine.old)) (λ _. answers.new.items ≡ answers.old.items) }
-    ensures after { MatchResult result (λ _. engine_of S.Reads.meaning engine.new ≡ after_calls S.Store.depth calls.now (engine_of S.Reads.meaning engine.old)) (λ _. engine.new ≡ engine.old) }
+    ensures answers { MatchResult result (λ _. answers.new.items ≡ answers.old.items ++ answers_to S.Store.depth calls.now (engine_of S.Reads.meaning engine.old)) (λ _. answers.new.items ≡ answers.old.items) }
+    ensures after { MatchResult result (λ _. engine_of S.Reads.meaning engine.new ≡ engine_after_calls S.Store.depth calls.now (engine_of S.Reads.meaning engine.old)) (λ _. engine.new ≡ engine.old) }
     ensures succeeds { vec_len answers.old + length calls.now ≤ vec_capacity answers.old → is_ok result ≡ true }
 {
     answers.reserve(calls.len())?;

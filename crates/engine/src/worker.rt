@@ -2,7 +2,7 @@
 ghost use Rattle.std.specs.Prelude.{◌≡◌, ◌<◌, Some, None, if◌then◌else◌};
 ghost use Rattle.std.specs.Option.{option_map};
 ghost use Rattle.snapshot.specs.Limits.{is_worker};
-ghost use Rattle.engine.specs.Workers.{number_of};
+ghost use Rattle.engine.specs.Workers.{worker_number};
 
 #[derive(Clone, Copy)]
 pub(crate) enum Worker {
@@ -19,7 +19,7 @@ pub(crate) enum Worker {
 impl Worker {
     // The worker of this number, if there is one.
     pub(crate) fn numbered(number: u8) -> Option<Worker>
-        ensures { option_map number_of result ≡ (if is_worker number then Some number else None) }
+        ensures { option_map worker_number result ≡ (if is_worker number then Some number else None) }
     {
         match number {
             0 => Some(Worker::W0),
@@ -35,7 +35,7 @@ impl Worker {
     }
 
     pub(crate) fn number(self) -> u8
-        ensures value { result ≡ number_of self }
+        ensures value { result ≡ worker_number self }
         ensures fits { result < 8 }
     {
         self as u8

@@ -3,9 +3,9 @@ use Rattle.std.proofs.Common.{◌≡◌, ℕ, zero, suc, Bool, true, false, cond
 use Rattle.std.specs.List.{slice_get}
 use Rattle.std.specs.Option.{option_map}
 use Rattle.snapshot.specs.Finding.{first_with}
-use Rattle.lives.specs.Caches.{Cache, entry_of, without, noticed, with_notice}
-use Rattle.lives.specs.declared.records.CacheEntry.{CacheEntry}
-use Rattle.lives.specs.declared.records.Notice.{Notice}
+use Rattle.engine_model.specs.Caches.{Cache, entry_of, without, noticed, with_notice}
+use Rattle.engine_model.specs.declared.records.CacheEntry.{CacheEntry}
+use Rattle.engine_model.specs.declared.records.Notice.{Notice}
 
 -- the place of the key's entry
 abbrev pub place_of : ℕ → Cache → Option ℕ
@@ -24,20 +24,20 @@ nothing_out k (x ∷ xs) e =
     ap (λ b. cond b xs (x ∷ without k xs)) h.0 ∙ ap (λ ys. x ∷ ys) (nothing_out k xs h.1)
 
 -- and a notice has no effect
-pub nothing_told : (n : Notice) (c : Cache) → place_of n.key c ≡ None → with_notice n c ≡ c
-nothing_told n [] e = refl
-nothing_told n (x ∷ xs) e =
+pub nothing_observed : (n : Notice) (c : Cache) → place_of n.key c ≡ None → with_notice n c ≡ c
+nothing_observed n [] e = refl
+nothing_observed n (x ∷ xs) e =
     let h = none_behind (eqb x.key n.key) (place_of n.key xs) e in
     ap (λ b. cond b (entry_of x.key (noticed n.reading x.reading) ∷ xs) (x ∷ with_notice n xs)) h.0
-    ∙ ap (λ ys. x ∷ ys) (nothing_told n xs h.1)
+    ∙ ap (λ ys. x ∷ ys) (nothing_observed n xs h.1)
 
 -- else the entry takes what the notice makes of its reading
-pub told_at :
+pub notified_at :
     (n : Notice) (c : Cache) (i : ℕ) (e : CacheEntry) → place_of n.key c ≡ Some i → slice_get c i ≡ Some e →
     set c i (entry_of e.key (noticed n.reading e.reading)) ≡ with_notice n c
-told_at n [] i e p g = absurd cc
-told_at n (x ∷ xs) i e p g =
-    at_head n x xs e i (eqb x.key n.key) (place_of n.key xs) (λ j q h. told_at n xs j e q h) p g
+notified_at n [] i e p g = absurd cc
+notified_at n (x ∷ xs) i e p g =
+    at_head n x xs e i (eqb x.key n.key) (place_of n.key xs) (λ j q h. notified_at n xs j e q h) p g
   where
     at_head :
         (n : Notice) (x : CacheEntry) (xs : Cache) (e : CacheEntry) (i : ℕ) (b : Bool) (r : Option ℕ) →

@@ -5,7 +5,7 @@ use Rattle.std.proofs.Math.ListN.{get_or-map}
 use Rattle.std.proofs.lemmas.Bool.{cond-true, cond-false, eqb-true, cases_Bool}
 use Rattle.std.proofs.lemmas.Bool.Decides.{nat_tests}
 use Rattle.std.proofs.lemmas.List.{map-set, length-map, get_or_default, get_or_past, get_or-set_same, get_or-set_other}
-use Rattle.lives.specs.Updates.{with_at}
+use Rattle.engine_model.specs.Updates.{with_at}
 use Rattle.engine_parts.specs.Lists.{item_at}
 
 module _ {X Y : Type 0} (f : X → Y) (d : Y) where

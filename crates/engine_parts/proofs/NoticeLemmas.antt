@@ -2,16 +2,16 @@
 use Rattle.std.proofs.Common.{◌≡◌, ℕ, ◌+◌, ◌<◌, Bool, true, false, List, length, get_or, drop, add-one, sym, ap, ◌∙◌}
 use Rattle.std.proofs.lemmas.Bool.{cond-true, cond-false}
 use Rattle.std.proofs.lemmas.List.{drop_more}
-use Rattle.snapshot.specs.Limits.{workers}
+use Rattle.snapshot.specs.Limits.{worker_count}
 use Rattle.snapshot.specs.declared.account.Write.{Write}
-use Rattle.lives.specs.Caches as caches
-use Rattle.lives.specs.Engines.{Notices}
-use Rattle.lives.specs.Notices.{notice_of, raise, raise_below, raise_all}
+use Rattle.engine_model.specs.Caches as caches
+use Rattle.engine_model.specs.Engines.{Notices}
+use Rattle.engine_model.specs.Notices.{notice_of, raise, raise_below, raise_all}
 
 module _ (holder : ℕ → Bool) (t : ℕ) (w : Write) (n : ℕ) (first now : Notices) (e : now ≡ raise_below holder t w n first) where
   -- a worker that holds the key is told
-  pub one_is_told : holder n ≡ true → raise (notice_of t w n) now ≡ raise_below holder t w (n + 1) first
-  one_is_told h =
+  pub one_is_notified : holder n ≡ true → raise (notice_of t w n) now ≡ raise_below holder t w (n + 1) first
+  one_is_notified h =
       ap (raise (notice_of t w n)) e
       ∙ sym (cond-true (holder n) _ _ h)
       ∙ ap (λ m. raise_below holder t w m first) (sym (add-one n))
@@ -23,7 +23,7 @@ module _ (holder : ℕ → Bool) (t : ℕ) (w : Write) (n : ℕ) (first now : No
 -- all workers have had their notices of a write, and what is left gives the whole as before
 pub one_write_less :
     (holds_key : ℕ → caches.Cache → Bool) (cs : ℕ → caches.Cache) (t : ℕ) (ws : List Write) (i : ℕ) (d : Write) (n : ℕ) (before now : Notices) →
-    i < length ws → n ≡ workers → now ≡ raise_below (λ m. holds_key (get_or ws i d).key (cs m)) t (get_or ws i d) n before →
+    i < length ws → n ≡ worker_count → now ≡ raise_below (λ m. holds_key (get_or ws i d).key (cs m)) t (get_or ws i d) n before →
     raise_all holds_key cs t (drop (i + 1) ws) now ≡ raise_all holds_key cs t (drop i ws) before
 one_write_less holds_key cs t ws i d n before now lt last e =
     let w = get_or ws i d in

@@ -12,7 +12,7 @@ use Rattle.snapshot.specs.declared.account.Write.{Write}
 use Rattle.snapshot.specs.declared.fault.Refusal.{Refusal}
 use Rattle.snapshot.specs.declared.fault.Refusal.TheVariants.{WriteSetFull}
 use Rattle.store.specs.Meaning.{written_to}
-use Rattle.lives.specs.WriteSets.{with_write, united}
+use Rattle.engine_model.specs.WriteSets.{with_write, united}
 use Rattle.engine_parts.specs.WriteSets.{fit_or_refused}
 
 -- A look-up.

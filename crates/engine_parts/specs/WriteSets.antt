@@ -4,12 +4,12 @@ use Rattle.snapshot.specs.Limits.{write_keys}
 use Rattle.snapshot.specs.declared.account.Write.{Write}
 use Rattle.snapshot.specs.declared.fault.Refusal.{Refusal}
 use Rattle.snapshot.specs.declared.fault.Refusal.TheVariants.{WriteSetFull}
-use Rattle.engine_parts.specs.Lists.{entries}
+use Rattle.engine_parts.specs.Lists.{elements_of}
 use Rattle.engine_parts.specs.declared.write_set.WriteSet.{WriteSet}
 
 -- the writes, from the first to the last
 abbrev pub writes_of : WriteSet → List Write
-writes_of s = entries s.writes
+writes_of s = elements_of s.writes
 
 -- more than eight writes are refused
 abbrev pub fit_or_refused : List Write → Result (List Write) Refusal

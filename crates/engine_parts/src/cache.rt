@@ -1,10 +1,10 @@
 // A worker's cache: at most eight entries, one for a key, in the order of their use.
 ghost use Rattle.std.specs.Prelude.{◌≡◌, [], ◌∷◌, ◌++◌};
 ghost use Rattle.engine_parts.specs.Caches.{cache_of};
-ghost use Rattle.lives.specs.Caches as model;
+ghost use Rattle.engine_model.specs.Caches as model;
 
 use crate::list::BoundedList;
-use lives::records::{CacheEntry, Notice};
+use engine_model::records::{CacheEntry, Notice};
 use snapshot::account::Reading;
 use snapshot::find::find;
 use snapshot::interval::Interval;

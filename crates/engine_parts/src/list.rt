@@ -2,7 +2,7 @@
 // fixed memory it can be copied, and has no invariant: a length beyond the bound means the whole array.
 ghost use Rattle.std.specs.Prelude.{◌≡◌, ◌≤◌, false, [], ◌∷◌, ◌++◌, length, nat_le, nat_lt, if◌then◌else◌, slice_get, slice_set, remove, insert};
 ghost use Rattle.std.specs.List.{find};
-ghost use Rattle.engine_parts.specs.Lists.{entries};
+ghost use Rattle.engine_parts.specs.Lists.{elements_of};
 
 use snapshot::find::{Keyed, find};
 
@@ -15,7 +15,7 @@ pub struct BoundedList<T, const N: usize> {
 impl<T: Copy + Default, const N: usize> BoundedList<T, N> {
     // An empty list.
     pub fn new() -> BoundedList<T, N>
-        ensures { entries result ≡ [] }
+        ensures { elements_of result ≡ [] }
     {
         BoundedList {
             items: [T::default(); N],
@@ -27,7 +27,7 @@ impl<T: Copy + Default, const N: usize> BoundedList<T, N> {
 impl<T: Copy, const N: usize> BoundedList<T, N> {
     // How many entries there are.
     pub fn len(&self) -> usize
-        ensures value { result ≡ length (entries self.now) }
+        ensures value { result ≡ length (elements_of self.now) }
         ensures fits { result ≤ N }
     {
         self.len.min(N)
@@ -35,7 +35,7 @@ impl<T: Copy, const N: usize> BoundedList<T, N> {
 
     // The entries, from the first to the last.
     pub fn as_slice(&self) -> &[T]
-        ensures value { result.now ≡ entries self.now }
+        ensures value { result.now ≡ elements_of self.now }
         ensures fits { length result.now ≤ N }
     {
         &self.items[..self.len()]
@@ -43,14 +43,14 @@ impl<T: Copy, const N: usize> BoundedList<T, N> {
 
     // Is there room for no more?
     pub fn is_full(&self) -> bool
-        ensures { result ≡ nat_le N (length (entries self.now)) }
+        ensures { result ≡ nat_le N (length (elements_of self.now)) }
     {
         N <= self.len
     }
 
     // The entry at this place, if there is one.
     pub fn get(&self, place: usize) -> Option<T>
-        ensures { result ≡ slice_get (entries self.now) place }
+        ensures { result ≡ slice_get (elements_of self.now) place }
     {
         self.as_slice().get(place).copied()
     }
@@ -59,7 +59,7 @@ impl<T: Copy, const N: usize> BoundedList<T, N> {
     pub fn with_key<K: Copy>(&self, key: K) -> Option<T>
     where
         T: Keyed<K>,
-        ensures { result ≡ find (λ x. T.named x key) (entries self.now) }
+        ensures { result ≡ find (λ x. T.named x key) (elements_of self.now) }
     {
         let place = find(self.as_slice(), key)?;
         self.get(place)
@@ -67,8 +67,8 @@ impl<T: Copy, const N: usize> BoundedList<T, N> {
 
     // Adds an entry at the end, and answers whether there was room.
     pub fn push(&mut self, entry: T) -> bool
-        ensures room { result ≡ nat_lt (length (entries self.old)) N }
-        ensures after { entries self.new ≡ (if result then entries self.old ++ entry ∷ [] else entries self.old) }
+        ensures room { result ≡ nat_lt (length (elements_of self.old)) N }
+        ensures after { elements_of self.new ≡ (if result then elements_of self.old ++ entry ∷ [] else elements_of self.old) }
         ensures unchanged { result ≡ false → self.new ≡ self.old }
     {
         let len = self.len();
@@ -82,7 +82,7 @@ impl<T: Copy, const N: usize> BoundedList<T, N> {
 
     // Puts an entry in the place of another; past the end it has no effect.
     pub fn put(&mut self, place: usize, entry: T)
-        ensures { entries self.new ≡ slice_set (entries self.old) place entry }
+        ensures { elements_of self.new ≡ slice_set (elements_of self.old) place entry }
     {
         if place < self.len() {
             self.items[place] = entry;
@@ -91,7 +91,7 @@ impl<T: Copy, const N: usize> BoundedList<T, N> {
 
     // Takes out the entry at this place, and later ones move up; past the end it has no effect.
     pub fn remove(&mut self, place: usize)
-        ensures { entries self.new ≡ remove (entries self.old) place }
+        ensures { elements_of self.new ≡ remove (elements_of self.old) place }
     {
         let len = self.len();
         if place < len {
@@ -102,8 +102,8 @@ impl<T: Copy, const N: usize> BoundedList<T, N> {
 
     // Puts an entry before the one at this place, or at the end where there is none, and answers whether there was room.
     pub fn insert(&mut self, place: usize, entry: T) -> bool
-        ensures room { result ≡ nat_lt (length (entries self.old)) N }
-        ensures after { entries self.new ≡ (if result then insert (entries self.old) place entry else entries self.old) }
+        ensures room { result ≡ nat_lt (length (elements_of self.old)) N }
+        ensures after { elements_of self.new ≡ (if result then insert (elements_of self.old) place entry else elements_of self.old) }
         ensures unchanged { result ≡ false → self.new ≡ self.old }
     {
         let len = self.len();

@@ -1,14 +1,14 @@
 // The engine's list of waiting notices, and the count of those that were lost.
 ghost use Rattle.std.specs.Prelude.{◌≡◌, length, slice_get};
-ghost use Rattle.lives.specs.Caches.{holds};
-ghost use Rattle.lives.specs.Engines.{no_notices, without_notice};
-ghost use Rattle.lives.specs.Notices.{raise, raise_all};
+ghost use Rattle.engine_model.specs.Caches.{holds};
+ghost use Rattle.engine_model.specs.Engines.{no_notices, without_notice};
+ghost use Rattle.engine_model.specs.Notices.{raise, raise_all};
 ghost use Rattle.engine_parts.specs.Caches.{caches_of};
 ghost use Rattle.engine_parts.specs.WaitingNotices.{notices_of};
 
 use crate::cache::{CACHES, Cache};
 use crate::list::BoundedList;
-use lives::records::Notice;
+use engine_model::records::Notice;
 use snapshot::account::{Reading, Write};
 use snapshot::limits::{WAITING_NOTICES, WORKERS};
 

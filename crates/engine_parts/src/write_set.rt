@@ -3,7 +3,7 @@ ghost use Rattle.std.specs.Prelude.{◌≡◌, ◌≤◌, [], length, nat_le, On
 ghost use Rattle.std.specs.List.{position_or_len};
 ghost use Rattle.std.specs.Result.{result_and, result_map_both};
 ghost use Rattle.store.specs.Meaning.{written_to};
-ghost use Rattle.lives.specs.WriteSets.{with_write, united};
+ghost use Rattle.engine_model.specs.WriteSets.{with_write, united};
 ghost use Rattle.engine_parts.specs.WriteSets.{writes_of, fit_or_refused};
 
 use crate::list::BoundedList;

@@ -8,7 +8,7 @@ use crate::seen::{
 };
 use crate::steps::{answers, hand_up_to, over_newest, reads_filled, writes_keys};
 use engine::engine::Engine;
-use lives::calls::Call::Count;
+use engine_model::calls::Call::Count;
 use newest_store::newest::Newest;
 use snapshot::fault::Refusal::{
     NotOpen, OutOfRange, PlaceOccupied, ReadingsFull, SameLeg, TooManyLegs, WriteSetFull,

@@ -8,7 +8,7 @@ use crate::seen::Seen::{self, Done, Leg, Legs, Value};
 use crate::seen::{abandon, begin, fork, hand, join, prune, read, refused, write};
 use crate::steps::{answers, fill, reads_filled};
 use engine::engine::Engine;
-use lives::calls::Call;
+use engine_model::calls::Call;
 use newest_store::newest::Newest;
 use snapshot::account::{Reading, Write};
 use snapshot::fault::Fault;

@@ -5,13 +5,13 @@ ghost use Rattle.snapshot.specs.Limits.{chain_readings, write_keys};
 ghost use Rattle.snapshot.specs.Refusals.{not_named, own_fault, unnamed};
 ghost use Rattle.snapshot.specs.declared.fault.Layer.TheVariants as layer;
 ghost use Rattle.snapshot.specs.declared.fault.Refusal.TheVariants.{NoSuchNotice};
-ghost use Rattle.lives.specs.Steps.{chain_fault};
-ghost use Rattle.lives.specs.declared.calls.Call.TheVariants as call;
+ghost use Rattle.engine_model.specs.Steps.{chain_fault};
+ghost use Rattle.engine_model.specs.declared.calls.Call.TheVariants as call;
 ghost use Rattle.engine_tests.specs.SeenOf.{seen_in};
 ghost use Rattle.engine_tests.specs.declared.seen.Seen.TheVariants as seen;
 
 use engine::answer::Answer;
-use lives::calls::Call;
+use engine_model::calls::Call;
 use snapshot::account::AccountHead;
 use snapshot::fault::{EngineFault, Fault, Layer, NOT_NAMED, Refusal};
 use snapshot::interval::Interval;

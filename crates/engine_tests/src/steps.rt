@@ -1,7 +1,7 @@
 // Lists of an engine's calls, each with the answer that is expected of it.
 use crate::seen::{Seen, begin, hand, read, seen_of, write};
 use engine::engine::Engine;
-use lives::calls::Call;
+use engine_model::calls::Call;
 use newest_store::newest::Newest;
 use snapshot::account::Write;
 use snapshot::limits::KEYS;

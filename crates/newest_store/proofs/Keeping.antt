@@ -2,7 +2,7 @@
 use Rattle.std.proofs.Common.{◌≡◌, ℕ, zero, suc, ◌≤◌, Bool, true, false, if◌then◌else◌, leb, List, [], ◌∷◌, length, get_or, replicate, Some, None, Option, refl, ap, ◌∙◌, subst, arith}
 use Rattle.std.proofs.lemmas.Bool.{cond_both, le-leb}
 use Rattle.snapshot.specs.Accounts.{rising_from}
-use Rattle.snapshot.specs.Limits.{keys, is_key}
+use Rattle.snapshot.specs.Limits.{key_count, is_key}
 use Rattle.snapshot.specs.declared.account.Write.{Write}
 use Rattle.store.specs.Meaning.{Meaning, version_of, new_store, written_to, kept_with, with_writes, versions_below, versions_kept}
 use Rattle.store.specs.declared.version.Version.{Version}
@@ -21,12 +21,12 @@ repeated_everywhere x zero k = refl
 repeated_everywhere x (suc n) zero = refl
 repeated_everywhere x (suc n) (suc k) = repeated_everywhere x n k
 
-pub new_meaning : newest_meaning (newest_of 0 (replicate keys (version_of 0 0))) ≡ new_store keys
+pub new_meaning : newest_meaning (newest_of 0 (replicate key_count (version_of 0 0))) ≡ new_store key_count
 new_meaning =
     λ i. record {
       last = 0;
-      capacity = keys;
-      kept = λ k. if is_key k then repeated_everywhere (version_of 0 0) keys k i ∷ [] else [];
+      capacity = key_count;
+      kept = λ k. if is_key k then repeated_everywhere (version_of 0 0) key_count k i ∷ [] else [];
     }
 
 -- Room: one version of each key.
@@ -36,9 +36,9 @@ unfolding versions_below
 ones_below zero kept one = omega arith
 ones_below (suc n) kept one = omega (arith, ones_below n kept one, one n)
 
-room : (s : Newest) → versions_kept (newest_meaning s) ≤ keys
+room : (s : Newest) → versions_kept (newest_meaning s) ≤ key_count
 room s =
-    ones_below keys (newest_meaning s).kept (λ k. cond_both (is_key k) _ _ (λ vs. length vs ≤ 1) (λ _. omega arith) (λ _. omega arith))
+    ones_below key_count (newest_meaning s).kept (λ k. cond_both (is_key k) _ _ (λ vs. length vs ≤ 1) (λ _. omega arith) (λ _. omega arith))
 
 -- A commit.
 
@@ -59,7 +59,7 @@ module _ (t : ℕ) (ws : List Write) (s : Newest) (vs : List Version) (rising : 
       ∙ kept_newest (is_key k) t (written_to k ws) (version_at k s.versions) (λ past. unwritten_past k ws past (rising_keys 0 ws rising))
 
   pub with_writes_lem : newest_meaning (newest_of t vs) ≡ with_writes 1 t ws m
-  with_writes_lem = λ i. record { last = t; capacity = keys; kept = λ k. kept_after k i }
+  with_writes_lem = λ i. record { last = t; capacity = key_count; kept = λ k. kept_after k i }
 
-  pub room_after : leb (versions_kept (with_writes 1 t ws m)) keys ≡ true
-  room_after = let P : Meaning → Type 0 = λ n. versions_kept n ≤ keys in le-leb _ _ (subst P with_writes_lem (room (newest_of t vs)))
+  pub room_after : leb (versions_kept (with_writes 1 t ws m)) key_count ≡ true
+  room_after = let P : Meaning → Type 0 = λ n. versions_kept n ≤ key_count in le-leb _ _ (subst P with_writes_lem (room (newest_of t vs)))

@@ -3,7 +3,7 @@ use Rattle.std.proofs.Common.{◌≡◌, ℕ, suc, ◌<◌, true, List, [], ◌�
 use Rattle.std.proofs.lemmas.List.{get_or-set_same, get_or-set_other, length-set}
 use Rattle.std.proofs.lemmas.Bool.Decides.{nat_tests}
 use Rattle.snapshot.specs.Accounts.{rising_from}
-use Rattle.snapshot.specs.Limits.{keys}
+use Rattle.snapshot.specs.Limits.{key_count}
 use Rattle.snapshot.specs.declared.account.Write.{Write}
 use Rattle.store.specs.Meaning.{version_of, written_to}
 use Rattle.store.specs.declared.version.Version.{Version}
@@ -22,7 +22,7 @@ put_first t k w ws vs lt gone =
     let elsewhere = get_or-set_other vs w.key k (version_of t w.value) (version_of 0 0) in
     grind (arith, nat_tests)
 
-pub put_gives : (t k least : ℕ) (ws : List Write) (vs : List Version) → length vs ≡ keys → rising_from least ws ≡ true → version_at k (put_all t ws vs) ≡ version_with t (written_to k ws) (version_at k vs)
+pub put_gives : (t k least : ℕ) (ws : List Write) (vs : List Version) → length vs ≡ key_count → rising_from least ws ≡ true → version_at k (put_all t ws vs) ≡ version_with t (written_to k ws) (version_at k vs)
 put_gives t k least [] vs len e = refl
 put_gives t k least (w ∷ ws) vs len e =
     let next = suc w.key in

@@ -1,6 +1,6 @@
 -- What the store of the newest versions means, and the version that a key has after a commit.
 use Rattle.std.specs.Prelude.{ℕ, if◌then◌else◌, List, [], ◌∷◌, Some, None, Option, slice_index_or}
-use Rattle.snapshot.specs.Limits.{keys, is_key}
+use Rattle.snapshot.specs.Limits.{key_count, is_key}
 use Rattle.store.specs.Meaning.{Meaning, version_of}
 use Rattle.store.specs.declared.version.Version.{Version}
 use Rattle.newest_store.specs.declared.newest.Newest.{Newest}
@@ -14,7 +14,7 @@ abbrev pub newest_meaning : Newest → Meaning
 newest_meaning s =
     record {
       last = s.last;
-      capacity = keys;
+      capacity = key_count;
       kept = λ k. if is_key k then version_at k s.versions ∷ [] else [];
     }
 

@@ -1,14 +1,14 @@
 // A store of depth 1 and capacity 64: the newest version of each key in place, with no memory of the caller's.
 ghost use Rattle.std.specs.Prelude.{◌≡◌, ℕ, true, length, nat_le};
 ghost use Rattle.std.proofs.Common.{lit≤};
-ghost use Rattle.snapshot.specs.Limits.{keys};
+ghost use Rattle.snapshot.specs.Limits.{key_count};
 ghost use Rattle.store.specs.Meaning.{new_store, versions_kept, with_writes, written_to};
 ghost use Rattle.newest_store.specs.Newest.{newest_meaning, version_at, version_with};
 
 use snapshot::account::{Reading, Write};
 use snapshot::fault::{Fault, Layer, Refusal};
 use snapshot::limits::KEYS;
-use store::checks::{check_commit, check_question};
+use store::checks::{check_commit, check_query};
 use store::traits::{Reads, Store};
 use store::update::Update;
 use store::version::Version;
@@ -24,7 +24,7 @@ pub struct Newest {
 impl Newest {
     // A new store: value 0 at time 0 for each key.
     pub fn new() -> Newest
-        ensures { newest_meaning result ≡ new_store keys }
+        ensures { newest_meaning result ≡ new_store key_count }
     {
         Newest {
             last: 0,
@@ -38,7 +38,7 @@ impl Newest {
     // Commits the update, for which there is always room.
     fn write(&mut self, update: Update)
         ensures meaning { newest_meaning self.new ≡ with_writes 1 update.entry.timestamp update.entry.writes.now (newest_meaning self.old) }
-        ensures room { nat_le (versions_kept (with_writes 1 update.entry.timestamp update.entry.writes.now (newest_meaning self.old))) keys ≡ true }
+        ensures room { nat_le (versions_kept (with_writes 1 update.entry.timestamp update.entry.writes.now (newest_meaning self.old))) key_count ≡ true }
     {
         put_all(&mut self.versions, update);
         self.last = update.timestamp;
@@ -53,7 +53,7 @@ impl Reads for Newest {
     }
 
     fn version(&self, key: u8, time: u64) -> Result<Reading, Fault> {
-        check_question(key, time)?;
+        check_query(key, time)?;
         let version = self.versions[usize::from(key)];
         if version.timestamp <= time {
             Ok(Reading {
@@ -90,7 +90,7 @@ impl Store for Newest {
 
 // Puts a version in the place of each key that the update writes.
 fn put_all(versions: &mut [Version], update: Update)
-    requires { length versions.old ≡ keys }
+    requires { length versions.old ≡ key_count }
     ensures { (k : ℕ) → version_at k versions.new ≡ version_with update.entry.timestamp (written_to k update.entry.writes.now) (version_at k versions.old) }
 {
     for write in update.writes {

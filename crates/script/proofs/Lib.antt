@@ -3,4 +3,4 @@ pub mod HexProofs
 pub mod BookProofs
 pub mod ListProofs
 pub mod PlayProofs
-pub mod LifeProofs
+pub mod TraceProofs

@@ -3,7 +3,7 @@ use Rattle.std.proofs.Common.{◌≡◌, ℕ, ◌+◌, ◌<◌, ◌≤◌, List,
 use Rattle.std.proofs.lemmas.List.{flat_map_more, length-map, length-take, map-append, take_more}
 use Rattle.std.specs.List.{flat_map}
 use Rattle.script.specs.Lines.{before_others, numbers_of}
-use Rattle.script.specs.Numbers.{number_of}
+use Rattle.script.specs.Numbers.{parsed_number}
 
 none_some : {X : Type 0} (x : X) → ◌≡◌ {A = Option X} None (Some x) → ⊥
 none_some x e = cc
@@ -13,25 +13,25 @@ none_after None = refl
 none_after (Some n) = refl
 
 -- one word that tells no number is enough
-pub stop : (words : List (Bor (List ℕ))) (i : ℕ) (d : Bor (List ℕ)) → i < length words → number_of (get_or words i d).now ≡ None → numbers_of (map (λ word. word.now) words) ≡ None
+pub stop : (words : List (Bor (List ℕ))) (i : ℕ) (d : Bor (List ℕ)) → i < length words → parsed_number (get_or words i d).now ≡ None → numbers_of (map (λ word. word.now) words) ≡ None
 stop [] i d lt h = absurd (omega arith)
 stop (w ∷ ws) zero d lt h = rw h refl
-stop (w ∷ ws) (suc i) d lt h = rw (stop ws i d (omega arith) h) (none_after (number_of w.now))
+stop (w ∷ ws) (suc i) d lt h = rw (stop ws i d (omega arith) h) (none_after (parsed_number w.now))
 
 -- the first word's number, and then those of the others
-more_by : (v w : List ℕ) (ws : List (List ℕ)) (ns : List ℕ) (n : ℕ) (o : Option ℕ) (p : Option (List ℕ)) → number_of v ≡ o → numbers_of ws ≡ p → Some ns ≡ before_others o p → ((ms : List ℕ) → Some ms ≡ numbers_of ws → Some (ms ++ n ∷ []) ≡ numbers_of (ws ++ w ∷ [])) → Some (ns ++ n ∷ []) ≡ before_others (number_of v) (numbers_of (ws ++ w ∷ []))
+more_by : (v w : List ℕ) (ws : List (List ℕ)) (ns : List ℕ) (n : ℕ) (o : Option ℕ) (p : Option (List ℕ)) → parsed_number v ≡ o → numbers_of ws ≡ p → Some ns ≡ before_others o p → ((ms : List ℕ) → Some ms ≡ numbers_of ws → Some (ms ++ n ∷ []) ≡ numbers_of (ws ++ w ∷ [])) → Some (ns ++ n ∷ []) ≡ before_others (parsed_number v) (numbers_of (ws ++ w ∷ []))
 more_by v w ws ns n None p first others e ih = absurd (none_some ns (sym e))
 more_by v w ws ns n (Some m) None first others e ih = absurd (none_some ns (sym e))
 more_by v w ws ns n (Some m) (Some ms) first others e ih =
     let same : ns ≡ m ∷ ms = cc in
     rw (first, ← ih ms (sym others), same) refl
 
-more : (ws : List (List ℕ)) (w : List ℕ) (ns : List ℕ) (n : ℕ) → Some ns ≡ numbers_of ws → number_of w ≡ Some n → Some (ns ++ n ∷ []) ≡ numbers_of (ws ++ w ∷ [])
+more : (ws : List (List ℕ)) (w : List ℕ) (ns : List ℕ) (n : ℕ) → Some ns ≡ numbers_of ws → parsed_number w ≡ Some n → Some (ns ++ n ∷ []) ≡ numbers_of (ws ++ w ∷ [])
 more [] w ns n e h = let none : ns ≡ [] = cc in rw (h, none) refl
 more (v ∷ ws) w ns n e h =
-    more_by v w ws ns n (number_of v) (numbers_of ws) refl refl e (λ ms f. more ws w ms n f h)
+    more_by v w ws ns n (parsed_number v) (numbers_of ws) refl refl e (λ ms f. more ws w ms n f h)
 
-pub one_more : (words : List (Bor (List ℕ))) (i : ℕ) (d : Bor (List ℕ)) (ns : List ℕ) (n : ℕ) → i < length words → Some ns ≡ numbers_of (map (λ word. word.now) (take i words)) → number_of (get_or words i d).now ≡ Some n → Some (ns ++ n ∷ []) ≡ numbers_of (map (λ word. word.now) (take (i + 1) words))
+pub one_more : (words : List (Bor (List ℕ))) (i : ℕ) (d : Bor (List ℕ)) (ns : List ℕ) (n : ℕ) → i < length words → Some ns ≡ numbers_of (map (λ word. word.now) (take i words)) → parsed_number (get_or words i d).now ≡ Some n → Some (ns ++ n ∷ []) ≡ numbers_of (map (λ word. word.now) (take (i + 1) words))
 one_more words i d ns n lt e h =
     more (map (λ word. word.now) (take i words)) (get_or words i d).now ns n e h
     ∙ ap numbers_of (sym (ap (map (λ word. word.now)) (take_more words i d lt) ∙ map-append (λ (word : Bor (List ℕ)). word.now) (take i words) (get_or words i d ∷ [])))
@@ -47,7 +47,7 @@ short_by ns k (Some m) (Some ms) e ih =
 
 pub length-numbers : (ws : List (List ℕ)) (ns : List ℕ) → Some ns ≡ numbers_of ws → length ns ≡ length ws
 length-numbers [] ns e = let none : ns ≡ [] = cc in rw none refl
-length-numbers (w ∷ ws) ns e = short_by ns (length ws) (number_of w) (numbers_of ws) e (λ ms f. length-numbers ws ms f) ∙ omega arith
+length-numbers (w ∷ ws) ns e = short_by ns (length ws) (parsed_number w) (numbers_of ws) e (λ ms f. length-numbers ws ms f) ∙ omega arith
 
 pub room : (words : List (Bor (List ℕ))) (i : ℕ) (ns : List ℕ) → i < length words → length words ≤ 7 → Some ns ≡ numbers_of (map (λ word. word.now) (take i words)) → length ns < 7
 room words i ns lt few e =

@@ -11,7 +11,7 @@ use Rattle.std.proofs.lemmas.Bool.Decides.{nat_tests}
 use Rattle.std.proofs.lemmas.Fmt.{IsAscii-from_digits}
 use Rattle.std.proofs.lemmas.Str.{IsUtf8-from_ascii}
 use Rattle.std.proofs.lemmas.Str.Parse.{IsNumeralModel, numerals_by_value, parse_digits}
-use Rattle.script.specs.Numbers.{number_of}
+use Rattle.script.specs.Numbers.{parsed_number}
 
 none_some : {X : Type 0} (x : X) → ◌≡◌ {A = Option X} None (Some x) → ⊥
 none_some x e = cc
@@ -22,10 +22,10 @@ own = numerals_by_value _ (search rules)
 pub digits_are_text : (ds : List ℕ) → list_all is_ascii_digit ds ≡ true → IsUtf8 ds
 digits_are_text ds digits = IsUtf8-from_ascii ds (IsAscii-from_digits ds (own.to ds digits))
 
-none_there : (ds : List ℕ) → ¬ ((0 < length ds) × (digits_value 10 ds < 2 ^ 64)) → number_of ds ≡ None
+none_there : (ds : List ℕ) → ¬ ((0 < length ds) × (digits_value 10 ds < 2 ^ 64)) → parsed_number ds ≡ None
 none_there ds h = grind (arith, nat_tests)
 
-pub number_is : {E : Type 0} (ds : List ℕ) (r : Result ℕ E) → list_all is_ascii_digit ds ≡ true → ParsesUnsigned {E = E} 64 10 ds r → result_ok r ≡ number_of ds
+pub number_is : {E : Type 0} (ds : List ℕ) (r : Result ℕ E) → list_all is_ascii_digit ds ≡ true → ParsesUnsigned {E = E} 64 10 ds r → result_ok r ≡ parsed_number ds
 number_is {E} ds (Ok x) digits p =
     let h = parse_digits own {E = E} 64 ds (Ok x) p digits in
     let a : nat_lt 0 (length ds) ≡ true = lt-ltb _ _ h.0.0 in

@@ -74,7 +74,7 @@ done now old cur whole left read going says none empty =
 
 -- one line more
 pub one_line : (now after old cur new : Option (List ℕ)) (whole : List ℕ) (left left_after : List ℕ → List ℕ) (read : Option Line) (l : Line) (text : List ℕ) → Going now old cur whole left → IfSome now (λ rest. read ≡ next_said rest) → IfSome now (λ rest. after ≡ Some (drop_through 10 rest)) → read ≡ Some l → Appends cur new text → ((rest : List ℕ) → said_in rest ≡ l ∷ said_in (drop_through 10 rest) → left rest ≡ text ++ left_after (drop_through 10 rest)) → Going after old new whole left_after
-one_line now after old cur new whole left left_after read l text going says drops some told step =
+one_line now after old cur new whole left left_after read l text going says drops some wrote step =
     let reads : read ≡ next_said going.rest = rw going.known at says in
     let dropped : after ≡ Some (drop_through 10 going.rest) = rw going.known at drops in
     let lines = said going.rest l (sym reads ∙ some) in
@@ -83,7 +83,7 @@ one_line now after old cur new whole left left_after read l text going says drop
       known = dropped;
       owes = λ next a.
           going.owes next
-          (subst (λ t. Appends cur next t) (sym (step going.rest lines)) (both cur new next text (left_after (drop_through 10 going.rest)) told a));
+          (subst (λ t. Appends cur next t) (sym (step going.rest lines)) (both cur new next text (left_after (drop_through 10 going.rest)) wrote a));
     }
 
 -- what is left is printed, and so the whole
@@ -97,9 +97,9 @@ ends None now old cur whole left read going says none empty = tt
 ends (Some first) now old cur whole left read going says none empty = done now old cur (whole first) left read going says none empty
 
 pub steps : (start now after old cur new : Option (List ℕ)) (whole left left_after : List ℕ → List ℕ) (read : Option Line) (l : Line) (text : List ℕ) → IfSome start (λ first. Going now old cur (whole first) left) → IfSome now (λ rest. read ≡ next_said rest) → IfSome now (λ rest. after ≡ Some (drop_through 10 rest)) → read ≡ Some l → Appends cur new text → ((rest : List ℕ) → said_in rest ≡ l ∷ said_in (drop_through 10 rest) → left rest ≡ text ++ left_after (drop_through 10 rest)) → IfSome start (λ first. Going after old new (whole first) left_after)
-steps None now after old cur new whole left left_after read l text going says drops some told step = tt
-steps (Some first) now after old cur new whole left left_after read l text going says drops some told step =
-    one_line now after old cur new (whole first) left left_after read l text going says drops some told step
+steps None now after old cur new whole left left_after read l text going says drops some wrote step = tt
+steps (Some first) now after old cur new whole left left_after read l text going says drops some wrote step =
+    one_line now after old cur new (whole first) left left_after read l text going says drops some wrote step
 
 -- the line is played by a call that plays all that is left
 pub closes : (start now after old cur new : Option (List ℕ)) (whole left left_after : List ℕ → List ℕ) (read : Option Line) (l : Line) → IfSome start (λ first. Going now old cur (whole first) left) → IfSome now (λ rest. read ≡ next_said rest) → IfSome now (λ rest. after ≡ Some (drop_through 10 rest)) → read ≡ Some l → IfSome after (λ rest. Appends cur new (left_after rest)) → ((rest : List ℕ) → said_in rest ≡ l ∷ said_in (drop_through 10 rest) → left rest ≡ left_after (drop_through 10 rest)) → IfSome start (λ first. Appends old new (whole first))
@@ -109,10 +109,10 @@ closes (Some first) now after old cur new whole left left_after read l going say
     the_rest after old cur new (whole first) left_after more prints
 
 -- a text is printed, and then what is left
-pub told_then : (now old cur new : Option (List ℕ)) (text : List ℕ) (left whole : List ℕ → List ℕ) → Appends old cur text → IfSome now (λ rest. Appends cur new (left rest)) → ((rest : List ℕ) → whole rest ≡ text ++ left rest) → IfSome now (λ rest. Appends old new (whole rest))
-told_then None old cur new text left whole told prints step = tt
-told_then (Some rest) old cur new text left whole told prints step =
-    subst (λ t. Appends old new t) (sym (step rest)) (both old cur new text (left rest) told prints)
+pub line_then : (now old cur new : Option (List ℕ)) (text : List ℕ) (left whole : List ℕ → List ℕ) → Appends old cur text → IfSome now (λ rest. Appends cur new (left rest)) → ((rest : List ℕ) → whole rest ≡ text ++ left rest) → IfSome now (λ rest. Appends old new (whole rest))
+line_then None old cur new text left whole wrote prints step = tt
+line_then (Some rest) old cur new text left whole wrote prints step =
+    subst (λ t. Appends old new t) (sym (step rest)) (both old cur new text (left rest) wrote prints)
 
 pub on_ok : {X E : Type 0} (r : Result X E) (P Q : Type 0) → OnOk r P → (P → Q) → OnOk r Q
 on_ok (Ok x) P Q p f = f p

@@ -4,4 +4,4 @@ pub mod Requests
 pub mod Lines
 pub mod Shown
 pub mod Played
-pub mod ScriptLives
+pub mod ScriptTraces

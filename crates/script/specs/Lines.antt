@@ -3,13 +3,13 @@ use Rattle.std.specs.Prelude.{ℕ, ◌==◌, false, if◌then◌else◌, List, [
 use Rattle.std.specs.Str.{bytes_eq}
 use Rattle.arrayvec.specs.ArrayVec.{ArrayVec}
 use Rattle.snapshot.specs.Limits.{most_records}
-use Rattle.lives.specs.declared.calls.Call.{Call}
+use Rattle.engine_model.specs.declared.calls.Call.{Call}
 use Rattle.script.specs.declared.line.Line.{Line}
 use Rattle.script.specs.declared.line.Line.TheVariants as line
 use Rattle.script.specs.declared.line.Request.{Request}
 use Rattle.script.specs.declared.line.StoreKind.{StoreKind}
 use Rattle.script.specs.declared.line.StoreKind.TheVariants.{Newest, Table}
-use Rattle.script.specs.Numbers.{number_of}
+use Rattle.script.specs.Numbers.{parsed_number}
 use Rattle.script.specs.Requests.{within, begin_of, hand_of, fork_of, join_of, write_of, read_of, commit_of, abandon_of, deliver_of, discard_of, count_of, prune_of}
 use Rattle.script.specs.Words.{first_words}
 
@@ -24,7 +24,7 @@ before_others (Some n) ns = with_first n ns
 
 abbrev pub numbers_of : List (List ℕ) → Option (List ℕ)
 numbers_of [] = Some []
-numbers_of (word ∷ words) = before_others (number_of word) (numbers_of words)
+numbers_of (word ∷ words) = before_others (parsed_number word) (numbers_of words)
 
 -- the numbers that are kept in a list
 abbrev pub items_of : Option (ArrayVec ℕ) → Option (List ℕ)
@@ -63,7 +63,7 @@ table_of (Some n) = within (nat_le n most_records) (Table n)
 
 abbrev pub store_of : List (List ℕ) → Option StoreKind
 store_of (kind ∷ []) = if bytes_eq kind (codes "newest") then Some Newest else None
-store_of (kind ∷ records ∷ []) = if bytes_eq kind (codes "table") then table_of (number_of records) else None
+store_of (kind ∷ records ∷ []) = if bytes_eq kind (codes "table") then table_of (parsed_number records) else None
 store_of _ = None
 
 -- What the line with this first word and these others says; none where it is bad.

@@ -2,12 +2,12 @@
 use Rattle.std.specs.Prelude.{ℕ, ◌+◌, ◌==◌, min, if◌then◌else◌, List, [], ◌∷◌, ◌++◌, Result, Ok, Err, codes, decimal, map, Option, IfSome, OnOk}
 use Rattle.std.specs.Io.KnownBytes.{Appends}
 use Rattle.std.specs.List.{onto_first}
-use Rattle.snapshot.specs.Limits.{keys, most_records}
+use Rattle.snapshot.specs.Limits.{key_count, most_records}
 use Rattle.snapshot.specs.declared.fault.EngineFault.{EngineFault}
 use Rattle.snapshot.specs.declared.fault.Fault.{Fault}
 use Rattle.store.specs.Meaning.{new_store}
 use Rattle.table_store.specs.Tables.{capacity_of, memory_check, table_depth}
-use Rattle.lives.specs.Engines.{Engine, new_engine}
+use Rattle.engine_model.specs.Engines.{Engine, new_engine}
 use Rattle.engine.specs.Performing.{performed}
 use Rattle.engine.specs.declared.answer.Answer.{Answer}
 use Rattle.engine.specs.declared.answer.Answer.TheVariants as answer
@@ -27,24 +27,24 @@ abbrev pub said_in : List ℕ → List Line
 said_in script = map line_of (lines_of script)
 
 -- a call and what it came to
-abbrev pub told : List ℕ → Result Answer Fault → List ℕ
-told call outcome = call ++ (codes " -> " ++ (outcome_text outcome ++ line_break))
+abbrev pub result_line : List ℕ → Result Answer Fault → List ℕ
+result_line call outcome = call ++ (codes " -> " ++ (outcome_text outcome ++ line_break))
 
-abbrev pub told_bad : ℕ → List ℕ
-told_bad number = codes "bad " ++ (decimal number ++ line_break)
+abbrev pub bad_line : ℕ → List ℕ
+bad_line number = codes "bad " ++ (decimal number ++ line_break)
 
 -- of an engine's fault the call's own is told
-abbrev pub outcome_of : Result Answer EngineFault → Result Answer Fault
-outcome_of (Ok a) = Ok a
-outcome_of (Err f) = Err f.fault
+abbrev pub shown_result : Result Answer EngineFault → Result Answer Fault
+shown_result (Ok a) = Ok a
+shown_result (Err f) = Err f.fault
 
 -- what a line prints once the engine stands, over a store of this depth: a store's line is bad there
 abbrev pub line_text : ℕ → Engine → ℕ → Line → List ℕ
 line_text depth engine number line.Blank = []
-line_text depth engine number line.Bad = told_bad number
-line_text depth engine number (line.Store kind) = told_bad number
+line_text depth engine number line.Bad = bad_line number
+line_text depth engine number (line.Store kind) = bad_line number
 line_text depth engine number (line.Call request) =
-    told (request_text request) (outcome_of (performed depth request.call engine).0)
+    result_line (request_text request) (shown_result (performed depth request.call engine).0)
 
 -- the engine after the line
 abbrev pub after_line : ℕ → Engine → Line → Engine
@@ -64,20 +64,20 @@ abbrev pub over_table : ℕ → Engine
 over_table records = new_engine (new_store (capacity_of records))
 
 -- what a table answers to memory of so many records
-abbrev pub checked : Result (Unit {0}) Fault → Result Answer Fault
-checked (Ok u) = Ok answer.Done
-checked (Err f) = Err f
+abbrev pub check_result : Result (Unit {0}) Fault → Result Answer Fault
+check_result (Ok u) = Ok answer.Done
+check_result (Err f) = Err f
 
 -- what lines print as long as there is no engine
 abbrev pub played : ℕ → List Line → List ℕ
 played number [] = []
 played number (line.Blank ∷ lines) = played (number + 1) lines
-played number (line.Bad ∷ lines) = told_bad number ++ played (number + 1) lines
+played number (line.Bad ∷ lines) = bad_line number ++ played (number + 1) lines
 played number (line.Store Newest ∷ lines) =
-    told (store_text Newest) (Ok answer.Done) ++ played_on 1 (new_engine (new_store keys)) (number + 1) lines
+    result_line (store_text Newest) (Ok answer.Done) ++ played_on 1 (new_engine (new_store key_count)) (number + 1) lines
 played number (line.Store (Table records) ∷ lines) =
     let size = min records most_records in
-    told (store_text (Table records)) (checked (memory_check size)) ++ played_on table_depth (over_table size) (number + 1) lines
+    result_line (store_text (Table records)) (check_result (memory_check size)) ++ played_on table_depth (over_table size) (number + 1) lines
 played number (line.Call request ∷ lines) =
     played_on table_depth (over_table most_records) number (line.Call request ∷ lines)
 

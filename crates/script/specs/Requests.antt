@@ -1,8 +1,8 @@
 -- The calls, each from the numbers behind its word.
 use Rattle.std.specs.Prelude.{ℕ, ◌^◌, Bool, true, false, ◌&&◌, if◌then◌else◌, List, [], ◌∷◌, Option, Some, None, nat_lt, nat_le}
 use Rattle.snapshot.specs.Limits.{chain_readings, write_keys}
-use Rattle.lives.specs.declared.calls.Call.{Call}
-use Rattle.lives.specs.declared.calls.Call.TheVariants.{Begin, Hand, Fork, Join, Read, Write, Commit, Abandon, Deliver, Discard, Count, Prune}
+use Rattle.engine_model.specs.declared.calls.Call.{Call}
+use Rattle.engine_model.specs.declared.calls.Call.TheVariants.{Begin, Hand, Fork, Join, Read, Write, Commit, Abandon, Deliver, Discard, Count, Prune}
 use Rattle.script.specs.declared.line.Request.{Request}
 
 -- the value where the numbers are in their ranges

@@ -3,7 +3,7 @@ use Rattle.std.specs.Prelude.{ℕ, ◌/◌, ◌%◌, Bool, false, if◌then◌el
 use Rattle.std.specs.Fmt.{digit_glyph}
 use Rattle.std.specs.List.{flat_map}
 use Rattle.snapshot.specs.Accounts.{Account, head_of, lawful}
-use Rattle.snapshot.specs.Refusals.{book_fault, number_of}
+use Rattle.snapshot.specs.Refusals.{book_fault, refusal_number}
 use Rattle.snapshot.specs.Shown.{head_text, spaced}
 use Rattle.snapshot.specs.declared.account.ChainReading.{ChainReading}
 use Rattle.snapshot.specs.declared.account.Write.{Write}
@@ -11,9 +11,9 @@ use Rattle.snapshot.specs.declared.fault.Fault.{Fault}
 use Rattle.snapshot.specs.declared.fault.Layer.{Layer}
 use Rattle.snapshot.specs.declared.fault.Layer.TheVariants.{Chain, Store, Notices, Book}
 use Rattle.snapshot.specs.declared.fault.Refusal.TheVariants.{Unlawful}
-use Rattle.lives.specs.declared.calls.Call.{Call}
-use Rattle.lives.specs.declared.calls.Call.TheVariants as call
-use Rattle.book.specs.Format.{bytes_of}
+use Rattle.engine_model.specs.declared.calls.Call.{Call}
+use Rattle.engine_model.specs.declared.calls.Call.TheVariants as call
+use Rattle.book.specs.Format.{account_bytes}
 use Rattle.engine.specs.declared.answer.Answer.{Answer}
 use Rattle.engine.specs.declared.answer.Answer.TheVariants as answer
 use Rattle.script.specs.declared.line.Request.{Request}
@@ -66,7 +66,7 @@ layer_text Book = codes "book"
 
 abbrev pub fault_text : Fault → List ℕ
 fault_text f =
-    codes "refused " ++ spaced (number_of f.refusal) (layer_text f.layer ++ (codes " " ++ three f.place f.leg f.key))
+    codes "refused " ++ spaced (refusal_number f.refusal) (layer_text f.layer ++ (codes " " ++ three f.place f.leg f.key))
 
 -- Accounts: a line with the five numbers, one for each reading and each write, and one with the bytes in the book.
 
@@ -88,7 +88,7 @@ hex_byte b = digit_glyph false (b / 16) ∷ digit_glyph false (b % 16) ∷ []
 
 -- the account's bytes; an account that the book does not take has that refusal in their place
 abbrev pub book_text : Account → List ℕ
-book_text a = if lawful a then flat_map hex_byte (bytes_of a) else fault_text (book_fault Unlawful 0).fault
+book_text a = if lawful a then flat_map hex_byte (account_bytes a) else fault_text (book_fault Unlawful 0).fault
 
 abbrev pub account_text : Account → List ℕ
 account_text a =

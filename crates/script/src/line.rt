@@ -1,6 +1,6 @@
 // What a line of a script says.
 
-use lives::calls::Call;
+use engine_model::calls::Call;
 
 // The kind of store that a script asks for; a table has so many records, 0 to 1,024.
 #[derive(Clone, Copy)]

@@ -5,8 +5,8 @@ ghost use Rattle.std.specs.Io.KnownBytes.{Appends};
 ghost use Rattle.engine.specs.Engines.{engine_of};
 ghost use Rattle.engine.specs.Performing.{performed};
 ghost use Rattle.script.specs.Lines.{line_of};
-ghost use Rattle.script.specs.ScriptLives.{PrintsLife};
-ghost use Rattle.script.specs.Played.{Prints, after_line, checked, line_text, outcome_of, played, played_on, printed, said_in, told, told_bad};
+ghost use Rattle.script.specs.ScriptTraces.{PrintsTrace};
+ghost use Rattle.script.specs.Played.{Prints, after_line, check_result, line_text, shown_result, played, played_on, printed, said_in, result_line, bad_line};
 ghost use Rattle.script.specs.declared.line.Line.TheVariants as line;
 ghost use Rattle.script.specs.declared.line.StoreKind.TheVariants as kind;
 ghost use Rattle.snapshot.specs.Limits.{most_records};
@@ -30,11 +30,11 @@ use table_store::table::Table;
 // Plays the script that the input has, to its end, and writes each call with what it came to, and each bad line's
 // number. Fails where the input cannot be read, the output cannot be written, there is no memory for a line, or there
 // are more lines than can be counted in 64 bits. The contract says what is written where the bytes of input and output
-// are known, as in memory, and that this shows a life that keeps the law of lives.
-#[tactic(auto, using(crate::proofs::LifeProofs::prints_life))]
+// are known, as in memory, and that this shows a trace that keeps the law of traces.
+#[tactic(auto, using(crate::proofs::TraceProofs::prints_trace))]
 pub fn play<R: BufRead, W: Write>(heap: Global, input: &mut R, output: &mut W) -> io::Result<()>
     ensures prints { Prints result (R.Read.remaining input.old) (W.contents output.old) (W.contents output.new) printed }
-    ensures life { IfSome (R.Read.remaining input.old) PrintsLife }
+    ensures trace { IfSome (R.Read.remaining input.old) PrintsTrace }
 {
     let mut bytes = Vec::new(heap);
     for number in 1..u64::MAX {
@@ -43,7 +43,7 @@ pub fn play<R: BufRead, W: Write>(heap: Global, input: &mut R, output: &mut W) -
         };
         match line {
             Line::Blank => {}
-            Line::Bad => tell_bad(output, number)?,
+            Line::Bad => write_bad(output, number)?,
             Line::Store(kind) => return play_over(input, output, &mut bytes, number, kind),
             Line::Call(request) => return play_from(input, output, &mut bytes, number, request),
         }
@@ -80,7 +80,7 @@ fn play_over<R: BufRead, W: Write>(
 {
     match kind {
         StoreKind::Newest => {
-            tell(output, kind, Outcome(Ok(Answer::Done)))?;
+            write_outcome(output, kind, Outcome(Ok(Answer::Done)))?;
             play_on(
                 input,
                 output,
@@ -117,7 +117,7 @@ fn play_over_table<R: BufRead, W: Write>(
     requires size { length memory.old ≡ min records most_records }
     ensures { Prints result (R.Read.remaining input.old) (W.contents output.old) (W.contents output.new) (λ rest. played number (line.Store (kind.Table records) ∷ said_in rest)) }
 {
-    tell(
+    write_outcome(
         output,
         StoreKind::Table { records },
         checked(Table::check(memory)),
@@ -175,11 +175,11 @@ fn play_line<W: Write, S: Store>(
     line: Line,
 ) -> io::Result<()>
     ensures after { engine_of S.Reads.meaning engine.new ≡ after_line S.Store.depth (engine_of S.Reads.meaning engine.old) line }
-    ensures told { OnOk result (Appends (W.contents output.old) (W.contents output.new) (line_text S.Store.depth (engine_of S.Reads.meaning engine.old) number line)) }
+    ensures writes { OnOk result (Appends (W.contents output.old) (W.contents output.new) (line_text S.Store.depth (engine_of S.Reads.meaning engine.old) number line)) }
 {
     match line {
         Line::Blank => Ok(()),
-        Line::Bad | Line::Store(_) => tell_bad(output, number),
+        Line::Bad | Line::Store(_) => write_bad(output, number),
         Line::Call(request) => perform(output, engine, request),
     }
 }
@@ -191,38 +191,38 @@ fn perform<W: Write, S: Store>(
     request: Request,
 ) -> io::Result<()>
     ensures after { engine_of S.Reads.meaning engine.new ≡ (performed S.Store.depth request.call (engine_of S.Reads.meaning engine.old)).1 }
-    ensures told { OnOk result (Appends (W.contents output.old) (W.contents output.new) (told (request_text request) (outcome_of (performed S.Store.depth request.call (engine_of S.Reads.meaning engine.old)).0))) }
+    ensures writes { OnOk result (Appends (W.contents output.old) (W.contents output.new) (result_line (request_text request) (shown_result (performed S.Store.depth request.call (engine_of S.Reads.meaning engine.old)).0))) }
 {
     let outcome = outcome(engine.perform(request.call));
-    tell(output, request, outcome)
+    write_outcome(output, request, outcome)
 }
 
 // Of an engine's fault the call's own is told.
 fn outcome(answer: Result<Answer, EngineFault>) -> Outcome
-    ensures { result.0 ≡ outcome_of answer }
+    ensures { result.0 ≡ shown_result answer }
 {
     Outcome(answer.map_err(|fault| fault.fault))
 }
 
 // What the check of a table's memory came to.
 fn checked(memory: Result<(), Fault>) -> Outcome
-    ensures { result.0 ≡ checked memory }
+    ensures { result.0 ≡ check_result memory }
 {
     Outcome(memory.map(|()| Answer::Done))
 }
 
-fn tell<W: Write, C: fmt::Display + Drop>(
+fn write_outcome<W: Write, C: fmt::Display + Drop>(
     output: &mut W,
     call: C,
     outcome: Outcome,
 ) -> io::Result<()>
-    ensures { OnOk result (IfSome (C.output call) (λ text. Appends (W.contents output.old) (W.contents output.new) (told text outcome.0))) }
+    ensures { OnOk result (IfSome (C.output call) (λ text. Appends (W.contents output.old) (W.contents output.new) (result_line text outcome.0))) }
 {
     writeln!(output, "{call} -> {outcome}")
 }
 
-fn tell_bad<W: Write>(output: &mut W, number: u64) -> io::Result<()>
-    ensures { OnOk result (Appends (W.contents output.old) (W.contents output.new) (told_bad number)) }
+fn write_bad<W: Write>(output: &mut W, number: u64) -> io::Result<()>
+    ensures { OnOk result (Appends (W.contents output.old) (W.contents output.new) (bad_line number)) }
 {
     writeln!(output, "bad {number}")
 }

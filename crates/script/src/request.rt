@@ -5,7 +5,7 @@ ghost use Rattle.script.specs.Requests as spec;
 ghost use Rattle.script.specs.Requests.{within};
 
 use crate::line::Request;
-use lives::calls::Call;
+use engine_model::calls::Call;
 use snapshot::limits::{CHAIN_READINGS, WRITE_KEYS};
 
 // The call with this word and these numbers, if there is such a call and each number is in its range.

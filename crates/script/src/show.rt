@@ -4,13 +4,13 @@ ghost use Rattle.std.specs.List.{flat_map};
 ghost use Rattle.snapshot.specs.Accounts.{lawful};
 ghost use Rattle.snapshot.specs.Refusals.{book_fault};
 ghost use Rattle.snapshot.specs.declared.fault.Refusal.TheVariants as refusal;
-ghost use Rattle.book.specs.Format.{bytes_of, told};
+ghost use Rattle.book.specs.Format.{account_bytes, as_account};
 ghost use Rattle.script.specs.Shown as spec;
 
 use crate::line::{Request, StoreKind};
 use book::account::Account;
 use engine::answer::{Answer, CommittedAccount};
-use lives::calls::Call;
+use engine_model::calls::Call;
 use snapshot::account::{AccountHead, ChainReading, Reading, Write};
 use snapshot::fault::{Fault, Layer};
 use snapshot::limits::{CHAIN_READINGS, WRITE_KEYS};
@@ -101,7 +101,7 @@ impl fmt::Display for Outcome {
 
 // The committed chain's account, as the book has it.
 fn account_of(committed: &CommittedAccount) -> Account<'_>
-    ensures { told result ≡ committed.now }
+    ensures { as_account result ≡ committed.now }
 {
     let head = committed.head();
     Account {
@@ -160,7 +160,7 @@ const LONGEST_ACCOUNT: usize = 29 + 22 * CHAIN_READINGS + 5 * WRITE_KEYS;
 pub struct AccountShown<'a>(pub Account<'a>);
 
 impl fmt::Display for AccountShown<'_> {
-    ghost output = { λ shown. Some (spec.account_text (told shown.0)) };
+    ghost output = { λ shown. Some (spec.account_text (as_account shown.0)) };
 
     fn fmt<W: fmt::Write>(&self, f: &mut fmt::Formatter<W>) -> fmt::Result {
         let Account {
@@ -241,7 +241,7 @@ impl fmt::Display for WritesShown<'_> {
 struct BookShown<'a>(Account<'a>);
 
 impl fmt::Display for BookShown<'_> {
-    ghost output = { λ shown. Some (spec.book_text (told shown.0)) };
+    ghost output = { λ shown. Some (spec.book_text (as_account shown.0)) };
 
     fn fmt<W: fmt::Write>(&self, f: &mut fmt::Formatter<W>) -> fmt::Result {
         let mut buffer = [0; LONGEST_ACCOUNT];
@@ -257,7 +257,7 @@ fn book_bytes<'a>(
     account: &Account,
     buffer: &'a mut [u8; LONGEST_ACCOUNT],
 ) -> Result<&'a [u8], Fault>
-    ensures { MatchResult result (λ bytes. (lawful (told account.now) ≡ true) × (bytes.now ≡ bytes_of (told account.now))) (λ fault. (lawful (told account.now) ≡ false) × (fault ≡ (book_fault refusal.Unlawful 0).fault)) }
+    ensures { MatchResult result (λ bytes. (lawful (as_account account.now) ≡ true) × (bytes.now ≡ account_bytes (as_account account.now))) (λ fault. (lawful (as_account account.now) ≡ false) × (fault ≡ (book_fault refusal.Unlawful 0).fault)) }
 {
     match account.write(buffer) {
         Ok(size) => Ok(&buffer[..size]),

@@ -2,7 +2,7 @@
 use Rattle.std.proofs.Common.{◌≡◌, ℕ, ◌≤◌, min, max, true, ◌&&◌, eqb, leb, List, [], ◌∷◌, fold, arith}
 use Rattle.std.specs.List.{AllByRecursion}
 use Rattle.std.proofs.lemmas.Bool.{and_parts, leb-true, eqb-true}
-use Rattle.snapshot.specs.Accounts.{Account, Agrees, agreed_ends, greatest_timestamp, least_promise}
+use Rattle.snapshot.specs.Accounts.{Account, CommonTimes, agreed_ends, greatest_timestamp, least_promise}
 use Rattle.snapshot.specs.Intervals.{Current}
 use Rattle.snapshot.specs.Limits.{open_end}
 use Rattle.snapshot.specs.declared.account.ChainReading.{ChainReading}
@@ -23,7 +23,7 @@ outside : (rs : List ChainReading) (a b s : ℕ) → a ≤ s → s ≤ b → All
 outside [] a b s l h c = (l, h)
 outside (r ∷ rs) a b s l h c = outside rs (later a r) (sooner b r) s (omega (arith, c.0)) (omega (arith, c.0)) c.1
 
-pub ends_agree : (a : Account) → agreed_ends a.low a.high a.readings ≡ true → Agrees a
+pub ends_agree : (a : Account) → agreed_ends a.low a.high a.readings ≡ true → CommonTimes a
 ends_agree a e =
     let both = and_parts (eqb a.low (greatest_timestamp a.readings) && eqb a.high (least_promise a.readings)) (leb a.low a.high) e in
     let ends = and_parts (eqb a.low (greatest_timestamp a.readings)) (eqb a.high (least_promise a.readings)) both.0 in

@@ -1,10 +1,10 @@
 -- Each refusal stands at its number in the list of all.
 use Rattle.std.proofs.Common.{◌≡◌, ℕ, lit≤, refl, sym, subst}
-use Rattle.snapshot.specs.Refusals.{Numbered, number_of}
+use Rattle.snapshot.specs.Refusals.{Numbered, refusal_number}
 use Rattle.snapshot.specs.declared.fault.Refusal.{Refusal}
 use Rattle.snapshot.specs.declared.fault.Refusal.TheVariants.{OutOfRange, PlaceOccupied, NotOpen, SameLeg, TooManyLegs, IntervalsApart, WriteSetFull, ReadingsFull, AnotherLegOpen, TooShort, UnfitWrites, ClockTooHigh, NoTimeLeft, CapacityExceeded, VersionGone, NoSuchNotice, UnfitMemory, AccountCut, WrongMark, WrongLastByte, Unlawful}
 
-numbered : (r : Refusal) → Numbered r (number_of r)
+numbered : (r : Refusal) → Numbered r (refusal_number r)
 numbered OutOfRange = (lit≤ tt, λ d. refl)
 numbered PlaceOccupied = (lit≤ tt, λ d. refl)
 numbered NotOpen = (lit≤ tt, λ d. refl)
@@ -27,5 +27,5 @@ numbered WrongMark = (lit≤ tt, λ d. refl)
 numbered WrongLastByte = (lit≤ tt, λ d. refl)
 numbered Unlawful = (lit≤ tt, λ d. refl)
 
-pub numbered_as : (r : Refusal) (n : ℕ) → n ≡ number_of r → Numbered r n
+pub numbered_as : (r : Refusal) (n : ℕ) → n ≡ refusal_number r → Numbered r n
 numbered_as r n e = subst (Numbered r) (sym e) (numbered r)

@@ -80,7 +80,7 @@ lawful a =
 
 -- What a lawful account means: it has a time, and a time up to the open end lies from low to high exactly when every
 -- reading's version is known to be current then.
-pub record Agrees (a : Account) : Type 0 where
+pub record CommonTimes (a : Account) : Type 0 where
   pub some : a.low ≤ a.high
   pub when_in : (s : ℕ) → Lies s (from_to a.low a.high) → AllByRecursion (λ r. Current s r.reading) a.readings
   pub only_in : (s : ℕ) → s ≤ open_end → AllByRecursion (λ r. Current s r.reading) a.readings → Lies s (from_to a.low a.high)

@@ -5,17 +5,17 @@ use Rattle.std.specs.Prelude.{ℕ, ◌^◌, Bool, ◌&&◌, nat_le, nat_lt}
 abbrev pub open_end : ℕ
 open_end = 2 ^ 48
 
-abbrev pub keys : ℕ
-keys = 64
+abbrev pub key_count : ℕ
+key_count = 64
 
-abbrev pub workers : ℕ
-workers = 8
+abbrev pub worker_count : ℕ
+worker_count = 8
 
-abbrev pub places : ℕ
-places = 4
+abbrev pub place_count : ℕ
+place_count = 4
 
-abbrev pub legs : ℕ
-legs = 16
+abbrev pub leg_count : ℕ
+leg_count = 16
 
 -- the most keys in a write set
 abbrev pub write_keys : ℕ
@@ -49,13 +49,13 @@ abbrev pub is_timestamp : ℕ → Bool
 is_timestamp t = nat_le 1 t && nat_lt t open_end
 
 abbrev pub is_key : ℕ → Bool
-is_key k = nat_lt k keys
+is_key k = nat_lt k key_count
 
 abbrev pub is_worker : ℕ → Bool
-is_worker w = nat_lt w workers
+is_worker w = nat_lt w worker_count
 
 abbrev pub is_place : ℕ → Bool
-is_place p = nat_lt p places
+is_place p = nat_lt p place_count
 
 abbrev pub is_leg : ℕ → Bool
-is_leg l = nat_lt l legs
+is_leg l = nat_lt l leg_count

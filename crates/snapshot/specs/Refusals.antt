@@ -9,28 +9,28 @@ use Rattle.snapshot.specs.declared.fault.BookFault.{BookFault}
 use Rattle.snapshot.specs.declared.fault.EngineFault.{EngineFault}
 
 -- the number of each refusal
-abbrev pub number_of : Refusal → ℕ
-number_of OutOfRange = 1
-number_of PlaceOccupied = 2
-number_of NotOpen = 3
-number_of SameLeg = 4
-number_of TooManyLegs = 5
-number_of IntervalsApart = 6
-number_of WriteSetFull = 7
-number_of ReadingsFull = 8
-number_of AnotherLegOpen = 9
-number_of TooShort = 10
-number_of UnfitWrites = 11
-number_of ClockTooHigh = 12
-number_of NoTimeLeft = 13
-number_of CapacityExceeded = 14
-number_of VersionGone = 15
-number_of NoSuchNotice = 16
-number_of UnfitMemory = 17
-number_of AccountCut = 18
-number_of WrongMark = 19
-number_of WrongLastByte = 20
-number_of Unlawful = 21
+abbrev pub refusal_number : Refusal → ℕ
+refusal_number OutOfRange = 1
+refusal_number PlaceOccupied = 2
+refusal_number NotOpen = 3
+refusal_number SameLeg = 4
+refusal_number TooManyLegs = 5
+refusal_number IntervalsApart = 6
+refusal_number WriteSetFull = 7
+refusal_number ReadingsFull = 8
+refusal_number AnotherLegOpen = 9
+refusal_number TooShort = 10
+refusal_number UnfitWrites = 11
+refusal_number ClockTooHigh = 12
+refusal_number NoTimeLeft = 13
+refusal_number CapacityExceeded = 14
+refusal_number VersionGone = 15
+refusal_number NoSuchNotice = 16
+refusal_number UnfitMemory = 17
+refusal_number AccountCut = 18
+refusal_number WrongMark = 19
+refusal_number WrongLastByte = 20
+refusal_number Unlawful = 21
 
 -- all refusals in the order of their numbers, which count from 1
 abbrev pub refusals : List Refusal

@@ -1,6 +1,6 @@
 // Why a call is refused: the refusal with its number, and the fault that says where it arose.
 ghost use Rattle.std.specs.Prelude.{◌≡◌};
-ghost use Rattle.snapshot.specs.Refusals.{Numbered, number_of, unnamed, at_key, book_fault, own_fault, around_store};
+ghost use Rattle.snapshot.specs.Refusals.{Numbered, refusal_number, unnamed, at_key, book_fault, own_fault, around_store};
 
 // The reasons for which a call is refused, in the order of their numbers.
 #[derive(Clone, Copy, PartialEq, Eq, Debug)]
@@ -31,7 +31,7 @@ pub enum Refusal {
 impl Refusal {
     // The refusal's number, 1 to 21.
     pub fn number(self) -> u8
-        ensures value { result ≡ number_of self }
+        ensures value { result ≡ refusal_number self }
         ensures own { Numbered self result }
     {
         self as u8

@@ -5,13 +5,13 @@ use Rattle.std.specs.Result.{result_and}
 use Rattle.std.specs.List.{ContainsAt as Has}
 use Rattle.std.proofs.ByRecursion.{All-get_or, all-has}
 use Rattle.std.proofs.lemmas.Option.{MatchOption-at_some, MatchOption-at_none}
-use Rattle.snapshot.specs.Limits.{keys, is_key, is_time}
+use Rattle.snapshot.specs.Limits.{key_count, is_key, is_time}
 use Rattle.snapshot.specs.declared.account.Reading.{Reading}
 use Rattle.snapshot.specs.declared.account.Write.{Write}
 use Rattle.snapshot.specs.declared.fault.Refusal.TheVariants.{VersionGone}
-use Rattle.store.specs.Calls.{answer_of, after_call, answers_of, after_calls}
-use Rattle.store.specs.Laws.{Rises, HoldsAt, version_in, given_by, given_by_all, AnswerLaw, KeyLaw, CommitLaw, StoreLaw, ever_had, KeepsLaws}
-use Rattle.store.specs.Meaning.{Meaning, version_of, new_store, issued, question_fault, in_range, newest_at, version_answer, commit_answer, after_prune}
+use Rattle.store.specs.Calls.{answer_of, after_store_call, store_answers, after_store_calls}
+use Rattle.store.specs.Laws.{Rises, LatestAt, version_read, given_by, given_by_all, AnswerLaw, KeyLaw, CommitLaw, StoreLaw, ever_had, KeepsLaws}
+use Rattle.store.specs.Meaning.{Meaning, version_of, new_store, issued, query_fault, in_range, newest_at, version_answer, commit_answer, after_prune}
 use Rattle.store.specs.declared.calls.StoreCall.{StoreCall}
 use Rattle.store.specs.declared.calls.StoreCall.TheVariants as call
 use Rattle.store.specs.declared.version.Version.{Version}
@@ -20,10 +20,10 @@ use Rattle.store.proofs.Standing.{KeyStands, Stands, new_stands, accepted_issued
 
 -- What version's answer says of newestAt's.
 
-answered : (k s : ℕ) (o : Option Reading) (r : Reading) → result_and (in_range k s) (ok_or o (question_fault VersionGone k)) ≡ Ok r → o ≡ Some r
+answered : (k s : ℕ) (o : Option Reading) (r : Reading) → result_and (in_range k s) (ok_or o (query_fault VersionGone k)) ≡ Ok r → o ≡ Some r
 answered k s o r e = grind arith
 
-refused_gone : (k s : ℕ) (o : Option Reading) → result_and (in_range k s) (ok_or o (question_fault VersionGone k)) ≡ Err (question_fault VersionGone k) → o ≡ None
+refused_gone : (k s : ℕ) (o : Option Reading) → result_and (in_range k s) (ok_or o (query_fault VersionGone k)) ≡ Err (query_fault VersionGone k) → o ≡ None
 refused_gone k s o e = grind arith
 
 -- One key.
@@ -41,25 +41,25 @@ module _ (m : Meaning) (ever : List Version) (k : ℕ) (key : is_key k ≡ true)
       let shows = MatchOption-at_some (Later s (m.kept k)) (Shows s m.last (m.kept k)) r (answered k s _ r e) (newest_kept_lem s) in
       record {
         newest_kept = shows.newest;
-        current = λ u from to. holds_in_all u ever (m.kept k) (version_in r) stands.suffix stands.rises (shows.current u from to);
+        current = λ u from to. holds_in_all u ever (m.kept k) (version_read r) stands.suffix stands.rises (shows.current u from to);
         reaches = shows.reaches;
         known = shows.known;
-        as_far_as_asked = shows.as_far_as_asked;
+        as_far_as_queried = shows.as_far_as_queried;
         ends = shows.ends;
       }
 
   -- a refusal as gone says that every kept version is later
-  all_later : (s : ℕ) → version_answer m k s ≡ Err (question_fault VersionGone k) → Later s (m.kept k)
+  all_later : (s : ℕ) → version_answer m k s ≡ Err (query_fault VersionGone k) → Later s (m.kept k)
   all_later s e =
       MatchOption-at_none (Later s (m.kept k)) (Shows s m.last (m.kept k)) (refused_gone k s _ e) (newest_kept_lem s)
 
   -- the version that was current then is not kept
-  dropped : (s : ℕ) → Later s (m.kept k) → (v : Version) × HoldsAt s v ever × (Has (m.kept k) v → ⊥)
+  dropped : (s : ℕ) → Later s (m.kept k) → (v : Version) × LatestAt s v ever × (Has (m.kept k) v → ⊥)
   dropped s later =
       let held = holds_from_zero s ever stands.from_zero stands.rises in
       (held.0, held.1, λ has. omega (arith, held.1.not_later, all-has (λ w. s < w.timestamp) (m.kept k) held.0 later has))
 
-  gone_where : (s : ℕ) (d : Version) → is_time s ≡ true → s < (get_or (m.kept k) 0 d).timestamp → version_answer m k s ≡ Err (question_fault VersionGone k)
+  gone_where : (s : ℕ) (d : Version) → is_time s ≡ true → s < (get_or (m.kept k) 0 d).timestamp → version_answer m k s ≡ Err (query_fault VersionGone k)
   gone_where s d time lt =
       rw (key, time, newest_none s m.last (m.kept k) (later_from_first s (m.kept k) d kept_rises lt))
 
@@ -101,24 +101,24 @@ module _ (depth capacity : ℕ) (m : Meaning) (ever : ℕ → List Version) (sta
 -- Calls.
 
 -- a call adds what it gave to what the keys ever had
-call_stands : (depth capacity : ℕ) (c : StoreCall) (m : Meaning) (ever : ℕ → List Version) → 1 ≤ depth → Stands depth capacity m ever → Stands depth capacity (after_call depth c m) (λ k. ever k ++ given_by c (answer_of depth c m) k)
+call_stands : (depth capacity : ℕ) (c : StoreCall) (m : Meaning) (ever : ℕ → List Version) → 1 ≤ depth → Stands depth capacity m ever → Stands depth capacity (after_store_call depth c m) (λ k. ever k ++ given_by c (answer_of depth c m) k)
 call_stands depth capacity call.Last m ever deep s = nothing_given_stands depth capacity m ever s
 call_stands depth capacity (call.Version k t) m ever deep s = nothing_given_stands depth capacity m ever s
 call_stands depth capacity (call.Commit clock ws) m ever deep s = after_commit_stands depth capacity m ever s clock ws.now deep
 call_stands depth capacity (call.Prune h) m ever deep s = nothing_given_stands depth capacity (after_prune h m) ever (prune_stands depth capacity m ever s h)
 
-pub calls_stand : (depth capacity : ℕ) (cs : List StoreCall) (m : Meaning) (ever : ℕ → List Version) → 1 ≤ depth → Stands depth capacity m ever → Stands depth capacity (after_calls depth cs m) (λ k. ever k ++ given_by_all cs (answers_of depth cs m) k)
+pub calls_stand : (depth capacity : ℕ) (cs : List StoreCall) (m : Meaning) (ever : ℕ → List Version) → 1 ≤ depth → Stands depth capacity m ever → Stands depth capacity (after_store_calls depth cs m) (λ k. ever k ++ given_by_all cs (store_answers depth cs m) k)
 calls_stand depth capacity [] m ever deep s = nothing_given_stands depth capacity m ever s
 calls_stand depth capacity (c ∷ cs) m ever deep s =
     let b = answer_of depth c m in
-    simp (← append_assoc) (calls_stand depth capacity cs (after_call depth c m) (λ k. ever k ++ given_by c b k) deep (call_stands depth capacity c m ever deep s))
+    simp (← append_assoc) (calls_stand depth capacity cs (after_store_call depth c m) (λ k. ever k ++ given_by c b k) deep (call_stands depth capacity c m ever deep s))
 
-new_keeps : (depth capacity : ℕ) → 1 ≤ depth → keys ≤ capacity → (calls : List StoreCall) → StoreLaw depth capacity (after_calls depth calls (new_store capacity)) (ever_had calls (answers_of depth calls (new_store capacity)))
+new_keeps : (depth capacity : ℕ) → 1 ≤ depth → key_count ≤ capacity → (calls : List StoreCall) → StoreLaw depth capacity (after_store_calls depth calls (new_store capacity)) (ever_had calls (store_answers depth calls (new_store capacity)))
 new_keeps depth capacity deep room calls =
     law_from_stands depth capacity _ _ (calls_stand depth capacity calls (new_store capacity) (λ k. version_of 0 0 ∷ []) deep (new_stands depth capacity deep room))
 
-pub calls_keep_laws : (depth : ℕ) → 1 ≤ depth → (calls : List StoreCall) (before after : Meaning) → after ≡ after_calls depth calls before → KeepsLaws depth calls before after
+pub calls_keep_laws : (depth : ℕ) → 1 ≤ depth → (calls : List StoreCall) (before after : Meaning) → after ≡ after_store_calls depth calls before → KeepsLaws depth calls before after
 calls_keep_laws depth deep calls before after left capacity room new =
-    let at : Meaning → Type 0 = λ m. StoreLaw depth capacity (after_calls depth calls m) (ever_had calls (answers_of depth calls m)) in
-    let then : Meaning → Type 0 = λ m. StoreLaw depth capacity m (ever_had calls (answers_of depth calls before)) in
+    let at : Meaning → Type 0 = λ m. StoreLaw depth capacity (after_store_calls depth calls m) (ever_had calls (store_answers depth calls m)) in
+    let then : Meaning → Type 0 = λ m. StoreLaw depth capacity m (ever_had calls (store_answers depth calls before)) in
     subst then (sym left) (subst at (sym new) (new_keeps depth capacity deep room calls))

@@ -5,7 +5,7 @@ use Rattle.std.proofs.ByRecursion.{All-append}
 use Rattle.std.proofs.lemmas.List.{append-nil, length-drop, length_push}
 use Rattle.std.proofs.lemmas.Bool.{cond_both}
 use Rattle.std.proofs.lemmas.Bool.Decides.{nat_tests}
-use Rattle.snapshot.specs.Limits.{keys, is_key, is_timestamp}
+use Rattle.snapshot.specs.Limits.{key_count, is_key, is_timestamp}
 use Rattle.snapshot.specs.declared.account.Write.{Write}
 use Rattle.snapshot.specs.declared.fault.Fault.{Fault}
 use Rattle.store.specs.Laws.{Rises, versions_of, IssuingLaws}
@@ -103,11 +103,11 @@ depth_kept depth t (Some x) kept le = simp length-drop (omega arith)
 
 -- A new store.
 
-pub new_stands : (depth capacity : ℕ) → 1 ≤ depth → keys ≤ capacity → Stands depth capacity (new_store capacity) (λ k. version_of 0 0 ∷ [])
+pub new_stands : (depth capacity : ℕ) → 1 ≤ depth → key_count ≤ capacity → Stands depth capacity (new_store capacity) (λ k. version_of 0 0 ∷ [])
 new_stands depth capacity deep room =
     record {
       same_capacity = refl;
-      within_capacity = omega (arith, ones_below keys (new_store capacity).kept (λ k. cond_both (is_key k) _ _ (λ vs. length vs ≤ 1) (λ _. omega arith) (λ _. omega arith)));
+      within_capacity = omega (arith, ones_below key_count (new_store capacity).kept (λ k. cond_both (is_key k) _ _ (λ vs. length vs ≤ 1) (λ _. omega arith) (λ _. omega arith)));
       within_depth = λ k key. rw key deep;
       of_keys = λ k key. rw key (record { some = omega arith; suffix = ([], refl); rises = (tt, tt); from_zero = refl; up_to_last = (omega arith, tt) });
     }
@@ -184,7 +184,7 @@ module _ (depth capacity : ℕ) (m : Meaning) (ever : ℕ → List Version) (sta
       let fewer : (k : ℕ) → length ((after_prune h m).kept k) ≤ length (m.kept k) = λ k. simp length-drop (omega arith) in
       record {
         same_capacity = stands.same_capacity;
-        within_capacity = omega (arith, fewer_below keys (after_prune h m).kept m.kept fewer);
+        within_capacity = omega (arith, fewer_below key_count (after_prune h m).kept m.kept fewer);
         within_depth = λ k key. omega (arith, fewer k, stands.within_depth k key);
         of_keys = λ k key.
             let of_key = stands.of_keys k key in

@@ -6,7 +6,7 @@ use Rattle.std.proofs.ByRecursion.{All-append, All-drop, all-has, All-weaker, ha
 use Rattle.std.proofs.lemmas.List.{drop_at, take-append-drop}
 use Rattle.std.proofs.lemmas.Bool.{cases_lt, leb-true, leb-false, lt-leb, cond_both}
 use Rattle.snapshot.specs.declared.account.Reading.{Reading}
-use Rattle.store.specs.Laws.{Rises, HoldsAt, version_in}
+use Rattle.store.specs.Laws.{Rises, LatestAt, version_read}
 use Rattle.store.specs.Meaning.{reading_of, end_before, newest_at, some_up_to, outdated}
 use Rattle.store.specs.declared.version.Version.{Version}
 
@@ -84,7 +84,7 @@ pub has_behind : (w : Version) (vs : List Version) (v : Version) → Has vs v �
 has_behind w vs v h = has_append_right (w ∷ []) vs v h
 
 -- a version before those that hold one changes nothing
-pub holds_behind : (s : ℕ) (w : Version) (vs : List Version) (v : Version) → Later w.timestamp vs → HoldsAt s v vs → HoldsAt s v (w ∷ vs)
+pub holds_behind : (s : ℕ) (w : Version) (vs : List Version) (v : Version) → Later w.timestamp vs → LatestAt s v vs → LatestAt s v (w ∷ vs)
 holds_behind s w vs v later h =
     let before : w.timestamp < v.timestamp = all-has (λ u. w.timestamp < u.timestamp) vs v later h.there in
     record {
@@ -93,16 +93,16 @@ holds_behind s w vs v later h =
       newest_one = (λ _. omega arith, h.newest_one);
     }
 
-holds_longer : (s : ℕ) (gone vs : List Version) (v : Version) → Rises (gone ++ vs) → HoldsAt s v vs → HoldsAt s v (gone ++ vs)
+holds_longer : (s : ℕ) (gone vs : List Version) (v : Version) → Rises (gone ++ vs) → LatestAt s v vs → LatestAt s v (gone ++ vs)
 holds_longer s [] vs v r h = h
 holds_longer s (w ∷ gone) vs v r h = holds_behind s w (gone ++ vs) v r.0 (holds_longer s gone vs v r.1 h)
 
 -- what the end of a list that rises holds, the list holds
-pub holds_in_all : (s : ℕ) (ever kept : List Version) (v : Version) → EndOf ever kept → Rises ever → HoldsAt s v kept → HoldsAt s v ever
+pub holds_in_all : (s : ℕ) (ever kept : List Version) (v : Version) → EndOf ever kept → Rises ever → LatestAt s v kept → LatestAt s v ever
 holds_in_all s ever kept v e r h = rw e.1 (holds_longer s e.0 kept v (rw e.1 at r) h)
 
 -- the first is held until the others begin
-pub holds_first : (s : ℕ) (v : Version) (vs : List Version) → v.timestamp ≤ s → Later s vs → HoldsAt s v (v ∷ vs)
+pub holds_first : (s : ℕ) (v : Version) (vs : List Version) → v.timestamp ≤ s → Later s vs → LatestAt s v (v ∷ vs)
 holds_first s v vs le later =
     record {
       there = (0, omega arith, λ _. refl);
@@ -111,7 +111,7 @@ holds_first s v vs le later =
     }
 
 -- versions that rise, the first not later than s, hold one at time s
-pub holds_some : (s : ℕ) (v : Version) (vs : List Version) → v.timestamp ≤ s → Rises (v ∷ vs) → (w : Version) × HoldsAt s w (v ∷ vs)
+pub holds_some : (s : ℕ) (v : Version) (vs : List Version) → v.timestamp ≤ s → Rises (v ∷ vs) → (w : Version) × LatestAt s w (v ∷ vs)
 holds_some s v [] le r = (v, holds_first s v [] le tt)
 holds_some s v (w ∷ vs) le r =
     ⊎_elim
@@ -119,7 +119,7 @@ holds_some s v (w ∷ vs) le r =
     (λ ge. let rest = holds_some s w vs ge r.1 in (rest.0, holds_behind s v (w ∷ vs) rest.0 r.0 rest.1))
     (cases_lt s w.timestamp)
 
-pub holds_from_zero : (s : ℕ) (vs : List Version) → FromZero vs → Rises vs → (v : Version) × HoldsAt s v vs
+pub holds_from_zero : (s : ℕ) (vs : List Version) → FromZero vs → Rises vs → (v : Version) × LatestAt s v vs
 holds_from_zero s [] z r = absurd z
 holds_from_zero s (v ∷ vs) z r = holds_some s v vs (omega arith) r
 
@@ -128,13 +128,13 @@ holds_from_zero s (v ∷ vs) z r = holds_some s v vs (omega arith) r
 -- what a reading shows that was answered at time s from these versions, as the law of an answer has it, with nothing dropped
 pub record Shows (s last : ℕ) (vs : List Version) (r : Reading) : Type 0 where
   -- the newest version that is not later than s
-  pub newest : HoldsAt s (version_in r) vs
+  pub newest : LatestAt s (version_read r) vs
   -- current from its timestamp to its promise
-  pub current : (u : ℕ) → r.timestamp ≤ u → u ≤ r.promise → HoldsAt u (version_in r) vs
+  pub current : (u : ℕ) → r.timestamp ≤ u → u ≤ r.promise → LatestAt u (version_read r) vs
   -- the promise is not before the timestamp, not above last, and reaches s as far as last
   pub reaches : r.timestamp ≤ r.promise
   pub known : r.promise ≤ last
-  pub as_far_as_asked : min s last ≤ r.promise
+  pub as_far_as_queried : min s last ≤ r.promise
   -- it ends at last, or where the next version begins
   pub ends : r.promise < last → (w : Version) × Has vs w × (w.timestamp ≡ r.promise + 1)
 
@@ -142,11 +142,11 @@ pub record Shows (s last : ℕ) (vs : List Version) (r : Reading) : Type 0 where
 shows_behind : (s last : ℕ) (v : Version) (vs : List Version) (r : Reading) → Later v.timestamp vs → Shows s last vs r → Shows s last (v ∷ vs) r
 shows_behind s last v vs r later h =
     record {
-      newest = holds_behind s v vs (version_in r) later h.newest;
-      current = λ u from to. holds_behind u v vs (version_in r) later (h.current u from to);
+      newest = holds_behind s v vs (version_read r) later h.newest;
+      current = λ u from to. holds_behind u v vs (version_read r) later (h.current u from to);
       reaches = h.reaches;
       known = h.known;
-      as_far_as_asked = h.as_far_as_asked;
+      as_far_as_queried = h.as_far_as_queried;
       ends = λ lt. let next = h.ends lt in (next.0, has_behind v vs next.0 next.1, next.2);
     }
 
@@ -158,7 +158,7 @@ shows_first s last v [] le later r up =
       current = λ u from _. holds_first u v [] from tt;
       reaches = up.0;
       known = omega arith;
-      as_far_as_asked = omega arith;
+      as_far_as_queried = omega arith;
       ends = λ lt. absurd (omega arith);
     }
 shows_first s last v (w ∷ vs) le later r up =
@@ -168,7 +168,7 @@ shows_first s last v (w ∷ vs) le later r up =
       current = λ u from to. holds_first u v (w ∷ vs) from (later_than_first u w vs (omega arith) r.1.0);
       reaches = omega arith;
       known = omega arith;
-      as_far_as_asked = omega arith;
+      as_far_as_queried = omega arith;
       ends = λ lt. (w, (1, omega arith, λ _. refl), omega arith);
     }
 

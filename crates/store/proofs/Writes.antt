@@ -4,7 +4,7 @@ use Rattle.std.specs.List.{AllByRecursion}
 use Rattle.std.proofs.lemmas.Bool.{and_parts}
 use Rattle.std.proofs.lemmas.Bool.Decides.{nat_tests}
 use Rattle.snapshot.specs.Accounts.{rising_from}
-use Rattle.snapshot.specs.Limits.{keys, write_keys, is_key}
+use Rattle.snapshot.specs.Limits.{key_count, write_keys, is_key}
 use Rattle.snapshot.specs.declared.account.Write.{Write}
 use Rattle.store.specs.Meaning.{fit_writes, written_to}
 
@@ -17,7 +17,7 @@ fit_some ws e = grind (arith, nat_tests)
 pub rising_later : (least : ℕ) (w : Write) (ws : List Write) → rising_from least (w ∷ ws) ≡ true → rising_from (suc w.key) ws ≡ true
 rising_later least w ws e = (and_parts (leb least w.key && is_key w.key) (rising_from (suc w.key) ws) e).1
 
-pub rising_keys : (least : ℕ) (ws : List Write) → rising_from least ws ≡ true → AllByRecursion (λ w. w.key < keys) ws
+pub rising_keys : (least : ℕ) (ws : List Write) → rising_from least ws ≡ true → AllByRecursion (λ w. w.key < key_count) ws
 rising_keys least [] e = tt
 rising_keys least (w ∷ ws) e = (grind (arith, nat_tests), rising_keys (suc w.key) ws (rising_later least w ws e))
 
@@ -30,7 +30,7 @@ unwritten_below k least (w ∷ ws) lt e =
     grind (arith, nat_tests)
 
 -- a number that is no key is not written
-pub unwritten_past : (k : ℕ) (ws : List Write) → is_key k ≡ false → AllByRecursion (λ w. w.key < keys) ws → written_to k ws ≡ None
+pub unwritten_past : (k : ℕ) (ws : List Write) → is_key k ≡ false → AllByRecursion (λ w. w.key < key_count) ws → written_to k ws ≡ None
 unwritten_past k [] past below = refl
 unwritten_past k (w ∷ ws) past below =
     let rest = unwritten_past k ws past below.1 in

@@ -12,17 +12,17 @@ answer_of depth (call.Version k s) m = answer.Version (version_answer m k s)
 answer_of depth (call.Commit c ws) m = answer.Commit (commit_answer depth c ws.now m)
 answer_of depth (call.Prune h) m = answer.Prune
 
-abbrev pub after_call : ℕ → StoreCall → Meaning → Meaning
-after_call depth call.Last m = m
-after_call depth (call.Version k s) m = m
-after_call depth (call.Commit c ws) m = after_commit depth c ws.now m
-after_call depth (call.Prune h) m = after_prune h m
+abbrev pub after_store_call : ℕ → StoreCall → Meaning → Meaning
+after_store_call depth call.Last m = m
+after_store_call depth (call.Version k s) m = m
+after_store_call depth (call.Commit c ws) m = after_commit depth c ws.now m
+after_store_call depth (call.Prune h) m = after_prune h m
 
 -- the answers to a list of calls, and what they leave
-abbrev pub answers_of : ℕ → List StoreCall → Meaning → List StoreAnswer
-answers_of depth [] m = []
-answers_of depth (c ∷ cs) m = answer_of depth c m ∷ answers_of depth cs (after_call depth c m)
+abbrev pub store_answers : ℕ → List StoreCall → Meaning → List StoreAnswer
+store_answers depth [] m = []
+store_answers depth (c ∷ cs) m = answer_of depth c m ∷ store_answers depth cs (after_store_call depth c m)
 
-abbrev pub after_calls : ℕ → List StoreCall → Meaning → Meaning
-after_calls depth [] m = m
-after_calls depth (c ∷ cs) m = after_calls depth cs (after_call depth c m)
+abbrev pub after_store_calls : ℕ → List StoreCall → Meaning → Meaning
+after_store_calls depth [] m = m
+after_store_calls depth (c ∷ cs) m = after_store_calls depth cs (after_store_call depth c m)

@@ -2,12 +2,12 @@
 use Rattle.std.specs.Prelude.{◌≡◌, ℕ, ◌+◌, ◌<◌, ◌≤◌, min, true, List, [], ◌∷◌, ◌++◌, length, Some, None, Ok, Err, Option, slice_index_or}
 use Rattle.std.specs.Result.{result_ok}
 use Rattle.std.specs.List.{ContainsAt as Has, AllByRecursion}
-use Rattle.snapshot.specs.Limits.{keys, is_key, is_time, is_timestamp}
+use Rattle.snapshot.specs.Limits.{key_count, is_key, is_time, is_timestamp}
 use Rattle.snapshot.specs.declared.account.Reading.{Reading}
 use Rattle.snapshot.specs.declared.account.Write.{Write}
 use Rattle.snapshot.specs.declared.fault.Refusal.TheVariants.{VersionGone}
-use Rattle.store.specs.Calls.{answers_of}
-use Rattle.store.specs.Meaning.{Meaning, Issuing, version_of, new_store, version_answer, commit_answer, written_to, versions_kept, question_fault}
+use Rattle.store.specs.Calls.{store_answers}
+use Rattle.store.specs.Meaning.{Meaning, Issuing, version_of, new_store, version_answer, commit_answer, written_to, versions_kept, query_fault}
 use Rattle.store.specs.declared.calls.StoreAnswer.{StoreAnswer}
 use Rattle.store.specs.declared.calls.StoreAnswer.TheVariants as answer
 use Rattle.store.specs.declared.calls.StoreCall.{StoreCall}
@@ -53,28 +53,28 @@ Rises [] = Unit {0}
 Rises (v ∷ vs) = AllByRecursion (λ w. v.timestamp < w.timestamp) vs × Rises vs
 
 -- at time s these versions hold v: it is one of them, not later than s, and none that is not later than s is newer
-pub record HoldsAt (s : ℕ) (v : Version) (vs : List Version) : Type 0 where
+pub record LatestAt (s : ℕ) (v : Version) (vs : List Version) : Type 0 where
   pub there : Has vs v
   pub not_later : v.timestamp ≤ s
   pub newest_one : AllByRecursion (λ w. w.timestamp ≤ s → w.timestamp ≤ v.timestamp) vs
 
 -- the version that a reading shows
-abbrev pub version_in : Reading → Version
-version_in r = version_of r.timestamp r.value
+abbrev pub version_read : Reading → Version
+version_read r = version_of r.timestamp r.value
 
 -- The laws.
 
 -- a reading that was answered for a key at time s, where the key ever had these versions
 pub record AnswerLaw (m : Meaning) (ever : List Version) (k s : ℕ) (r : Reading) : Type 0 where
   -- it shows the newest kept version that is not later than s
-  pub newest_kept : HoldsAt s (version_in r) (m.kept k)
+  pub newest_kept : LatestAt s (version_read r) (m.kept k)
   -- that version was current at every time from its timestamp to its promise
-  pub current : (u : ℕ) → r.timestamp ≤ u → u ≤ r.promise → HoldsAt u (version_in r) ever
+  pub current : (u : ℕ) → r.timestamp ≤ u → u ≤ r.promise → LatestAt u (version_read r) ever
   -- the promise is not before the timestamp, and not above last
   pub reaches : r.timestamp ≤ r.promise
   pub known : r.promise ≤ m.last
   -- the promise reaches the time asked, as far as last
-  pub as_far_as_asked : min s m.last ≤ r.promise
+  pub as_far_as_queried : min s m.last ≤ r.promise
   -- it ends at last, or where the next kept version begins
   pub ends : r.promise < m.last → (w : Version) × Has (m.kept k) w × (w.timestamp ≡ r.promise + 1)
 
@@ -91,10 +91,10 @@ pub record KeyLaw (m : Meaning) (ever : List Version) (k : ℕ) : Type 0 where
   -- what version answers
   pub answers : (s : ℕ) (r : Reading) → version_answer m k s ≡ Ok r → AnswerLaw m ever k s r
   -- where version is refused as gone, the version that was current at s has been dropped
-  pub refused : (s : ℕ) → version_answer m k s ≡ Err (question_fault VersionGone k) → (v : Version) × HoldsAt s v ever × (Has (m.kept k) v → ⊥)
+  pub refused : (s : ℕ) → version_answer m k s ≡ Err (query_fault VersionGone k) → (v : Version) × LatestAt s v ever × (Has (m.kept k) v → ⊥)
   -- and it is refused so exactly where the oldest kept version is later than s
-  pub only_where : (s : ℕ) (d : Version) → version_answer m k s ≡ Err (question_fault VersionGone k) → s < (slice_index_or (m.kept k) 0 d).timestamp
-  pub every_where : (s : ℕ) (d : Version) → is_time s ≡ true → s < (slice_index_or (m.kept k) 0 d).timestamp → version_answer m k s ≡ Err (question_fault VersionGone k)
+  pub only_where : (s : ℕ) (d : Version) → version_answer m k s ≡ Err (query_fault VersionGone k) → s < (slice_index_or (m.kept k) 0 d).timestamp
+  pub every_where : (s : ℕ) (d : Version) → is_time s ≡ true → s < (slice_index_or (m.kept k) 0 d).timestamp → version_answer m k s ≡ Err (query_fault VersionGone k)
 
 -- a way of choosing timestamps that a store can take: a commit can have the one that is issued, and it is later than last
 pub record IssuingLaws (issue : Issuing) : Type 0 where
@@ -120,4 +120,4 @@ pub record StoreLaw (depth capacity : ℕ) (m : Meaning) (ever : ℕ → List Ve
 -- a store that was new before these calls, of any capacity from 64 on, keeps the laws after them
 abbrev pub KeepsLaws : ℕ → List StoreCall → Meaning → Meaning → Type 0
 KeepsLaws depth calls before after =
-    (capacity : ℕ) → keys ≤ capacity → before ≡ new_store capacity → StoreLaw depth capacity after (ever_had calls (answers_of depth calls before))
+    (capacity : ℕ) → key_count ≤ capacity → before ≡ new_store capacity → StoreLaw depth capacity after (ever_had calls (store_answers depth calls before))

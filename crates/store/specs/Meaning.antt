@@ -3,7 +3,7 @@ use Rattle.std.specs.Prelude.{ℕ, zero, suc, ◌+◌, ◌-◌, min, max, Bool, 
 use Rattle.std.specs.Option.{ok_or, option_or}
 use Rattle.std.specs.Result.{result_and}
 use Rattle.snapshot.specs.Accounts.{rising_from}
-use Rattle.snapshot.specs.Limits.{open_end, keys, write_keys, is_key, is_time}
+use Rattle.snapshot.specs.Limits.{open_end, key_count, write_keys, is_key, is_time}
 use Rattle.snapshot.specs.Refusals.{unnamed, at_key}
 use Rattle.snapshot.specs.declared.account.Reading.{Reading}
 use Rattle.snapshot.specs.declared.account.Write.{Write}
@@ -27,8 +27,8 @@ abbrev pub new_store : ℕ → Meaning
 new_store c = record { last = 0; capacity = c; kept = λ k. if is_key k then version_of 0 0 ∷ [] else [] }
 
 -- a store's faults: those of a question name its key, those of a commit name nothing
-abbrev pub question_fault : Refusal → ℕ → Fault
-question_fault r k = at_key r Store k
+abbrev pub query_fault : Refusal → ℕ → Fault
+query_fault r k = at_key r Store k
 
 abbrev pub store_fault : Refusal → Fault
 store_fault r = unnamed r Store
@@ -52,11 +52,11 @@ newest_at s last (v ∷ vs) =
 
 -- there is such a key and such a time
 abbrev pub in_range : ℕ → ℕ → Result (Unit {0}) Fault
-in_range k s = if is_key k && is_time s then Ok tt else Err (question_fault OutOfRange k)
+in_range k s = if is_key k && is_time s then Ok tt else Err (query_fault OutOfRange k)
 
 abbrev pub version_answer : Meaning → ℕ → ℕ → Result Reading Fault
 version_answer m k s =
-    result_and (in_range k s) (ok_or (newest_at s m.last (m.kept k)) (question_fault VersionGone k))
+    result_and (in_range k s) (ok_or (newest_at s m.last (m.kept k)) (query_fault VersionGone k))
 
 -- Commit.
 
@@ -107,7 +107,7 @@ versions_below (suc n) kept = versions_below n kept + length (kept n)
 
 -- the versions kept of all keys together
 abbrev pub versions_kept : Meaning → ℕ
-versions_kept m = versions_below keys m.kept
+versions_kept m = versions_below key_count m.kept
 
 -- refused where more versions would be kept than there is room for
 abbrev pub if_room : ℕ → List Write → Meaning → Result ℕ Fault → Result ℕ Fault

@@ -2,7 +2,7 @@
 use Rattle.std.specs.Prelude.{◌≡◌, ℕ, if◌then◌else◌, List, [], ◌∷◌, length, Ok, Err, Result}
 use Rattle.std.specs.List.{AllByRecursion}
 use Rattle.snapshot.specs.Intervals.{from_to, meets_reading, narrowed, joined_or_refused}
-use Rattle.snapshot.specs.Refusals.{number_of}
+use Rattle.snapshot.specs.Refusals.{refusal_number}
 use Rattle.snapshot.specs.declared.account.Reading.{Reading}
 use Rattle.snapshot.specs.declared.account.Write.{Write}
 use Rattle.snapshot.specs.declared.fault.Fault.{Fault}
@@ -11,42 +11,42 @@ use Rattle.snapshot.specs.declared.interval.Interval.{Interval}
 use Rattle.store.specs.Meaning.{Meaning, version_of, version_answer, timestamp_for, after_prune}
 
 -- what a case comes to
-pub data Outcome : Type 0 where
+pub data CaseOutcome : Type 0 where
   -- an interval, from low to high
-  interval : ℕ → ℕ → Outcome
+  interval : ℕ → ℕ → CaseOutcome
   -- a reading that does not meet the interval
-  apart : Outcome
+  apart : CaseOutcome
   -- a commit's timestamp
-  committed_at : ℕ → Outcome
+  committed_at : ℕ → CaseOutcome
   -- a reading's timestamp and promise
-  current : ℕ → ℕ → Outcome
+  current : ℕ → ℕ → CaseOutcome
   -- a call that is refused, by its number
-  refused : ℕ → Outcome
+  refused : ℕ → CaseOutcome
 
 -- a reading with this timestamp and promise, on a leg whose interval is 80 to 120
-abbrev narrows : ℕ → ℕ → Outcome
+abbrev narrows : ℕ → ℕ → CaseOutcome
 narrows t p =
     let r : Reading = record { value = 0; timestamp = t; promise = p } in
     let n = narrowed (from_to 80 120) r in
     if meets_reading (from_to 80 120) r then interval n.low n.high else apart
 
-abbrev join_outcome : Result Interval Refusal → Outcome
+abbrev join_outcome : Result Interval Refusal → CaseOutcome
 join_outcome (Ok i) = interval i.low i.high
-join_outcome (Err r) = refused (number_of r)
+join_outcome (Err r) = refused (refusal_number r)
 
-abbrev joins : Interval → Interval → Outcome
+abbrev joins : Interval → Interval → CaseOutcome
 joins i j = join_outcome (joined_or_refused i j)
 
-abbrev commit_outcome : Result ℕ Fault → Outcome
+abbrev commit_outcome : Result ℕ Fault → CaseOutcome
 commit_outcome (Ok t) = committed_at t
-commit_outcome (Err f) = refused (number_of f.refusal)
+commit_outcome (Err f) = refused (refusal_number f.refusal)
 
-abbrev read_outcome : Result Reading Fault → Outcome
+abbrev read_outcome : Result Reading Fault → CaseOutcome
 read_outcome (Ok r) = current r.timestamp r.promise
-read_outcome (Err f) = refused (number_of f.refusal)
+read_outcome (Err f) = refused (refusal_number f.refusal)
 
 -- a commit of one write at this clock reading, to a store with this last timestamp
-abbrev commits : ℕ → ℕ → Outcome
+abbrev commits : ℕ → ℕ → CaseOutcome
 commits clock last =
     let w : Write = record { key = 0; value = 1 } in
     commit_outcome (timestamp_for clock (w ∷ []) last)
@@ -55,15 +55,15 @@ commits clock last =
 abbrev three_versions : Meaning
 three_versions = record { last = 45; capacity = 1024; kept = λ k. version_of 0 0 ∷ version_of 10 1 ∷ version_of 30 2 ∷ [] }
 
-abbrev asks : Meaning → ℕ → Outcome
-asks m s = read_outcome (version_answer m 0 s)
+abbrev queries : Meaning → ℕ → CaseOutcome
+queries m s = read_outcome (version_answer m 0 s)
 
 -- a case: what the rules give, and what it should be
 pub record Case : Type 0 where
-  pub gives : Outcome
-  pub should : Outcome
+  pub gives : CaseOutcome
+  pub should : CaseOutcome
 
-abbrev case : Outcome → Outcome → Case
+abbrev case : CaseOutcome → CaseOutcome → Case
 case g s = record { gives = g; should = s }
 
 abbrev pub worked_cases : List Case
@@ -78,8 +78,8 @@ worked_cases =
     ∷ case (joins (from_to 10 20) (from_to 21 30)) (refused 6)
     ∷ case (commits 100 99) (committed_at 100)
     ∷ case (commits 5 100) (committed_at 101)
-    ∷ case (asks three_versions 29) (current 10 29)
-    ∷ case (asks (after_prune 10 three_versions) 9) (refused 15)
+    ∷ case (queries three_versions 29) (current 10 29)
+    ∷ case (queries (after_prune 10 three_versions) 9) (refused 15)
     ∷ []
 
 -- every case of the table, of which there are n, comes out as it should

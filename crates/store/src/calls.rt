@@ -1,6 +1,6 @@
 // A store's calls and their answers as values, and a list of calls run on any store.
 ghost use Rattle.std.specs.Prelude.{◌≡◌, ◌+◌, ◌≤◌, true, ◌++◌, length, is_ok, vec_len, vec_capacity, MatchResult, OnOk};
-ghost use Rattle.store.specs.Calls.{answer_of, after_call, answers_of, after_calls};
+ghost use Rattle.store.specs.Calls.{answer_of, after_store_call, store_answers, after_store_calls};
 ghost use Rattle.store.specs.Laws.{KeepsLaws};
 
 use crate::traits::Store;
@@ -29,7 +29,7 @@ pub enum StoreAnswer {
 // Performs one call.
 pub fn perform<S: Store>(store: &mut S, call: StoreCall) -> StoreAnswer
     ensures answer { result ≡ answer_of S.Store.depth call.entry (S.Reads.meaning store.old) }
-    ensures after { S.Reads.meaning store.new ≡ after_call S.Store.depth call.entry (S.Reads.meaning store.old) }
+    ensures after { S.Reads.meaning store.new ≡ after_store_call S.Store.depth call.entry (S.Reads.meaning store.old) }
 {
     match call {
         StoreCall::Last => StoreAnswer::Last(store.last()),
@@ -49,8 +49,8 @@ pub fn run<S: Store>(
     calls: &[StoreCall],
     answers: &mut Vec<StoreAnswer>,
 ) -> Result<(), AllocError>
-    ensures answers { MatchResult result (λ _. answers.new.items ≡ answers.old.items ++ answers_of S.Store.depth calls.now (S.Reads.meaning store.old)) (λ _. answers.new.items ≡ answers.old.items) }
-    ensures after { MatchResult result (λ _. S.Reads.meaning store.new ≡ after_calls S.Store.depth calls.now (S.Reads.meaning store.old)) (λ _. store.new ≡ store.old) }
+    ensures answers { MatchResult result (λ _. answers.new.items ≡ answers.old.items ++ store_answers S.Store.depth calls.now (S.Reads.meaning store.old)) (λ _. answers.new.items ≡ answers.old.items) }
+    ensures after { MatchResult result (λ _. S.Reads.meaning store.new ≡ after_store_calls S.Store.depth calls.now (S.Reads.meaning store.old)) (λ _. store.new ≡ store.old) }
     ensures succeeds { vec_len answers.old + length calls.now ≤ vec_capacity answers.old → is_ok result ≡ true }
     ensures laws { OnOk result (KeepsLaws S.Store.depth calls.now (S.Reads.meaning store.old) (S.Reads.meaning store.new)) }
 {

@@ -11,7 +11,7 @@ use snapshot::limits::{OPEN_END, WRITE_KEYS, is_key, is_time};
 use snapshot::writes::are_rising;
 
 // Refused where there is no such key or time.
-pub fn check_question(key: u8, time: u64) -> Result<(), Fault>
+pub fn check_query(key: u8, time: u64) -> Result<(), Fault>
     ensures { result ≡ in_range key time }
 {
     if is_key(key) && is_time(time) {

@@ -12,7 +12,7 @@ use Rattle.store.specs.declared.version.Version.{Version}
 use Rattle.table_store.proofs.Keys.{of_key_more_yes, of_key_more_no}
 use Rattle.table_store.proofs.Pushes.{outdated_push}
 use Rattle.table_store.specs.PerKeys.{number_for, per_key, with}
-use Rattle.table_store.specs.Records.{has_key, version_in, of_key, excess, no_record}
+use Rattle.table_store.specs.Records.{has_key, record_version, of_key, excess, no_record}
 use Rattle.table_store.specs.declared.per_key.PerKey.{PerKey}
 use Rattle.table_store.specs.declared.record.Record.{Record}
 
@@ -59,7 +59,7 @@ counted rs k = length (of_key k rs)
 pub counted_le : (rs : List Record) (i k : ℕ) → per_key (counted (take i rs)) k ≤ i
 counted_le rs i k =
     let some : counted (take i rs) k ≤ i =
-    omega (arith, length-map (filter (has_key k) (take i rs)) version_in, length-filter (has_key k) (take i rs), count_by-le-length (has_key k) (take i rs), length-take i rs) in
+    omega (arith, length-map (filter (has_key k) (take i rs)) record_version, length-filter (has_key k) (take i rs), count_by-le-length (has_key k) (take i rs), length-take i rs) in
     cond_both (is_key k) (counted (take i rs) k) 0 (λ n. n ≤ i) (λ _. some) (λ _. omega arith)
 
 -- at a key the number is that of the function
@@ -75,7 +75,7 @@ module _ (rs : List Record) (i : ℕ) (lt : i < length rs) where
   abbrev r : Record
   r = get_or rs i no_record
 
-  pub pushed_here : of_key r.key (take (i + 1) rs) ≡ of_key r.key (take i rs) ++ version_in r ∷ []
+  pub pushed_here : of_key r.key (take (i + 1) rs) ≡ of_key r.key (take i rs) ++ record_version r ∷ []
   pushed_here = of_key_more_yes r.key rs i no_record lt (eq-eqb r.key r.key refl)
 
   pub same_elsewhere : (k : ℕ) → (r.key ≡ k → ⊥) → of_key k (take (i + 1) rs) ≡ of_key k (take i rs)
@@ -84,11 +84,11 @@ module _ (rs : List Record) (i : ℕ) (lt : i < length rs) where
   pub count_more : (p q : PerKey) (n : ℕ) → Numbers p (counted (take i rs)) → n ≡ number_for p r.key → ((k : ℕ) → number_for q k ≡ with (number_for p) r.key (n + 1) k) → Numbers q (counted (take (i + 1) rs))
   count_more p q n old count made =
       set_more p q (counted (take i rs)) (counted (take (i + 1) rs)) r.key (n + 1) old made
-      (λ key_in. ap length pushed_here ∙ length_push (of_key r.key (take i rs)) (version_in r) ∙ ap (λ m. m + 1) (sym (number_at p (counted (take i rs)) r.key n old count key_in)))
+      (λ key_in. ap length pushed_here ∙ length_push (of_key r.key (take i rs)) (record_version r) ∙ ap (λ m. m + 1) (sym (number_at p (counted (take i rs)) r.key n old count key_in)))
       (λ k ne. ap length (same_elsewhere k ne))
 
   outdated_here : (h : ℕ) → outdated_in h (take (i + 1) rs) r.key ≡ (if nat_le r.timestamp h then counted (take i rs) r.key else outdated_in h (take i rs) r.key)
-  outdated_here h = ap (outdated h) pushed_here ∙ outdated_push h (of_key r.key (take i rs)) (version_in r)
+  outdated_here h = ap (outdated h) pushed_here ∙ outdated_push h (of_key r.key (take i rs)) (record_version r)
 
   pub outdated_set :
       (h : ℕ) (p q counts : PerKey) (n : ℕ) → Numbers p (outdated_in h (take i rs)) → Numbers counts (counted (take i rs)) → n ≡ number_for counts r.key → r.timestamp ≤ h →

@@ -37,12 +37,12 @@ module _
     first e e' r rs false bs says after rest = rest ∙ sym (first_goes e e' r rs after (not-false _ (sym says)))
 
     in_turn : (p q : P) (bs : List Bool) (rs : List Record) → length bs ≡ length rs → ReturnsInTurn R p bs rs q → items_where_true bs rs ≡ drop_firsts (numbers p) rs
-    in_turn p q [] [] long told = refl
-    in_turn p q [] (r ∷ rs) long told = absurd (omega arith)
-    in_turn p q (b ∷ bs) [] long told = absurd told
-    in_turn p q (b ∷ bs) (r ∷ rs) long told =
-        let step = takes p r b told.0 told.1 in
-        first (numbers p) (numbers told.0) r rs b bs step.0 step.1 (in_turn told.0 q bs rs (omega arith) told.2)
+    in_turn p q [] [] long given = refl
+    in_turn p q [] (r ∷ rs) long given = absurd (omega arith)
+    in_turn p q (b ∷ bs) [] long given = absurd given
+    in_turn p q (b ∷ bs) (r ∷ rs) long given =
+        let step = takes p r b given.0 given.1 in
+        first (numbers p) (numbers given.0) r rs b bs step.0 step.1 (in_turn given.0 q bs rs (omega arith) given.2)
 
     pub kept_by : (p : P) (rs xs : List Record) → IsFiltered R p rs xs → xs ≡ drop_firsts (numbers p) rs
     kept_by p rs xs h = h.4 ∙ in_turn p h.1 h.0 rs h.2 h.3

@@ -7,7 +7,7 @@ use Rattle.std.proofs.lemmas.List.Folds.{list_all-append}
 use Rattle.std.proofs.lemmas.Bool.{and_parts, and_from, cases_Bool, cond_both, cond-true, cond-false, eqb-true, eqb-false, eq-eqb, ne_eqb, ltb-true, ltb-false}
 use Rattle.std.proofs.lemmas.Bool.Decides.{nat_tests}
 use Rattle.snapshot.specs.Accounts.{rising_from}
-use Rattle.snapshot.specs.Limits.{keys, is_key}
+use Rattle.snapshot.specs.Limits.{key_count, is_key}
 use Rattle.snapshot.specs.declared.account.Write.{Write}
 use Rattle.store.specs.Laws.{versions_of}
 use Rattle.store.specs.Meaning.{version_of, outdated, written_to, kept_with, versions_below}
@@ -15,7 +15,7 @@ use Rattle.store.specs.declared.version.Version.{Version}
 use Rattle.store.proofs.Writes.{rising_later, rising_keys, unwritten_below, unwritten_past}
 use Rattle.table_store.proofs.Keys.{of_key_append}
 use Rattle.table_store.specs.PerKeys.{one_less, per_key}
-use Rattle.table_store.specs.Records.{after_writes, drop_firsts, excess, first_records, has_key, of_key, record_of, version_in, without_outdated, written}
+use Rattle.table_store.specs.Records.{after_writes, drop_firsts, excess, first_records, has_key, of_key, record_of, record_version, without_outdated, written}
 use Rattle.table_store.specs.Tables.{in_order, is_before, sound_record}
 use Rattle.table_store.specs.declared.record.Record.{Record}
 
@@ -61,11 +61,11 @@ order_both (x ∷ xs) ys a b ahead =
 
 -- The versions of a key.
 
-pub cons_yes : (k : ℕ) (r : Record) (rs : List Record) → has_key k r ≡ true → of_key k (r ∷ rs) ≡ version_in r ∷ of_key k rs
-cons_yes k r rs e = ap (λ b. map version_in (if b then r ∷ filter (has_key k) rs else filter (has_key k) rs)) e
+pub cons_yes : (k : ℕ) (r : Record) (rs : List Record) → has_key k r ≡ true → of_key k (r ∷ rs) ≡ record_version r ∷ of_key k rs
+cons_yes k r rs e = ap (λ b. map record_version (if b then r ∷ filter (has_key k) rs else filter (has_key k) rs)) e
 
 pub cons_no : (k : ℕ) (r : Record) (rs : List Record) → has_key k r ≡ false → of_key k (r ∷ rs) ≡ of_key k rs
-cons_no k r rs e = ap (λ b. map version_in (if b then r ∷ filter (has_key k) rs else filter (has_key k) rs)) e
+cons_no k r rs e = ap (λ b. map record_version (if b then r ∷ filter (has_key k) rs else filter (has_key k) rs)) e
 
 drop_some : (n : ℕ) (v : Version) (vs : List Version) → 0 < n → drop (n - 1) vs ≡ drop n (v ∷ vs)
 drop_some zero v vs lt = absurd (omega arith)
@@ -83,7 +83,7 @@ module _ (k : ℕ) (e : ℕ → ℕ) (r : Record) (rs : List Record) where
       let same = eqb-true r.key k is in
       rest
       ∙ ap (λ n. drop n (of_key k rs)) (cond-true (k == r.key) (e k - 1) (e k) (eq-eqb k r.key (sym same)))
-      ∙ drop_some (e k) (version_in r) (of_key k rs) (omega (arith, ltb-true 0 (e r.key) some, ap e same))
+      ∙ drop_some (e k) (record_version r) (of_key k rs) (omega (arith, ltb-true 0 (e r.key) some, ap e same))
       ∙ ap (drop (e k)) (sym (cons_yes k r rs is)))
       (λ other.
       rest
@@ -97,8 +97,8 @@ module _ (k : ℕ) (e : ℕ → ℕ) (r : Record) (rs : List Record) where
       (λ is.
       let zero_left : e k ≡ 0 = omega (arith, ltb-false 0 (e r.key) none, ap e (eqb-true r.key k is)) in
       cons_yes k r (drop_firsts e rs) is
-      ∙ ap (λ vs. version_in r ∷ vs) (rest ∙ ap (λ n. drop n (of_key k rs)) zero_left)
-      ∙ ap (λ n. drop n (version_in r ∷ of_key k rs)) (sym zero_left)
+      ∙ ap (λ vs. record_version r ∷ vs) (rest ∙ ap (λ n. drop n (of_key k rs)) zero_left)
+      ∙ ap (λ n. drop n (record_version r ∷ of_key k rs)) (sym zero_left)
       ∙ ap (drop (e k)) (sym (cons_yes k r rs is)))
       (λ other. cons_no k r (drop_firsts e rs) other ∙ rest ∙ ap (drop (e k)) (sym (cons_no k r rs other)))
       (cases_Bool (has_key k r))
@@ -255,11 +255,11 @@ unfolding versions_below
 none_below zero = refl
 none_below (suc n) = omega (arith, none_below n)
 
-pub versions_together : (rs : List Record) → list_all (λ r. is_key r.key) rs ≡ true → versions_below keys (λ k. of_key k rs) ≡ length rs
-versions_together [] a = none_below keys
+pub versions_together : (rs : List Record) → list_all (λ r. is_key r.key) rs ≡ true → versions_below key_count (λ k. of_key k rs) ≡ length rs
+versions_together [] a = none_below key_count
 versions_together (r ∷ rs) a =
     let parts = and_parts (is_key r.key) (list_all (λ q. is_key q.key) rs) a in
-    omega (arith, one_more_below keys r rs, versions_together rs parts.1, cond-true {A = ℕ} (nat_lt r.key keys) 1 0 parts.0)
+    omega (arith, one_more_below key_count r rs, versions_together rs parts.1, cond-true {A = ℕ} (nat_lt r.key key_count) 1 0 parts.0)
 
 -- A new store.
 
@@ -271,8 +271,8 @@ first_keys (suc n) =
     (all_from (λ r. nat_lt r.key n && r.timestamp == 0) (λ r. nat_lt r.key (suc n) && r.timestamp == 0) (λ r h. grind (arith, nat_tests)) (first_records n) (first_keys n))
     (grind (arith, nat_tests))
 
-pub first_sound : (last : ℕ) → list_all (sound_record last) (first_records keys) ≡ true
-first_sound last = all_from (λ r. nat_lt r.key keys && r.timestamp == 0) (sound_record last) (λ r h. grind (arith, nat_tests)) (first_records keys) (first_keys keys)
+pub first_sound : (last : ℕ) → list_all (sound_record last) (first_records key_count) ≡ true
+first_sound last = all_from (λ r. nat_lt r.key key_count && r.timestamp == 0) (sound_record last) (λ r h. grind (arith, nat_tests)) (first_records key_count) (first_keys key_count)
 
 ahead_of_next : (n : ℕ) (rs : List Record) → list_all (λ r. nat_lt r.key n && r.timestamp == 0) rs ≡ true → Ahead rs (record_of n 0 0 ∷ [])
 ahead_of_next n [] a = tt
@@ -310,5 +310,5 @@ first_versions (suc n) k =
     ∙ ap (λ b. if b then version_of 0 0 ∷ [] else []) same)
     (cases_Bool (n == k))
 
-pub first_kept : (k : ℕ) → of_key k (first_records keys) ≡ (if is_key k then version_of 0 0 ∷ [] else [])
-first_kept k = first_versions keys k
+pub first_kept : (k : ℕ) → of_key k (first_records key_count) ≡ (if is_key k then version_of 0 0 ∷ [] else [])
+first_kept k = first_versions key_count k

@@ -5,7 +5,7 @@ use Rattle.std.specs.List.{AllByRecursion, list_all}
 use Rattle.std.proofs.lemmas.List.{length-drop, length-take, take-append-drop}
 use Rattle.std.proofs.lemmas.Bool.{and_parts, and_from, cases_Bool, cond_both, cond-true, cond-false, eqb-true, leb-true, le-leb, lt-leb}
 use Rattle.std.proofs.lemmas.Bool.Decides.{nat_tests}
-use Rattle.snapshot.specs.Limits.{keys, is_key}
+use Rattle.snapshot.specs.Limits.{key_count, is_key}
 use Rattle.snapshot.specs.declared.account.Write.{Write}
 use Rattle.snapshot.specs.declared.fault.Fault.{Fault}
 use Rattle.snapshot.specs.declared.fault.Refusal.TheVariants.{CapacityExceeded}
@@ -33,10 +33,10 @@ pub same_length : (mem mem' : List Record) → room_in mem' ≡ room_in mem → 
 same_length mem mem' same fit = grind (arith, nat_tests)
 
 shown_fit : (mem : List Record) (n : ℕ) → is_table_size (length mem) ≡ true → shown_in mem n ≡ take n mem
-shown_fit mem n fit = cond-true (is_table_size (length mem)) (take n mem) (first_records keys) fit
+shown_fit mem n fit = cond-true (is_table_size (length mem)) (take n mem) (first_records key_count) fit
 
-pub shown_unfit : (mem : List Record) (n : ℕ) → is_table_size (length mem) ≡ false → shown_in mem n ≡ first_records keys
-shown_unfit mem n unfit = cond-false (is_table_size (length mem)) (take n mem) (first_records keys) unfit
+pub shown_unfit : (mem : List Record) (n : ℕ) → is_table_size (length mem) ≡ false → shown_in mem n ≡ first_records key_count
+shown_unfit mem n unfit = cond-false (is_table_size (length mem)) (take n mem) (first_records key_count) unfit
 
 -- Soundness.
 
@@ -145,11 +145,11 @@ no_excess None vs few = refl
 no_excess (Some x) vs few = omega arith
 
 -- the keys of a new store drop nothing when they are written
-first_excess : (ws : List Write) (k : ℕ) → per_key (λ j. excess 16 (written_to j ws) (of_key j (first_records keys))) k ≡ 0
+first_excess : (ws : List Write) (k : ℕ) → per_key (λ j. excess 16 (written_to j ws) (of_key j (first_records key_count))) k ≡ 0
 first_excess ws k =
-    let one : length (of_key k (first_records keys)) ≤ 1 =
+    let one : length (of_key k (first_records key_count)) ≤ 1 =
     omega (arith, ap length (first_kept k), cond_both (is_key k) (version_of 0 0 ∷ []) [] (λ vs. length vs ≤ 1) (λ _. omega arith) (λ _. omega arith)) in
-    cond_both (is_key k) _ 0 (λ x. x ≡ 0) (λ _. no_excess (written_to k ws) (of_key k (first_records keys)) one) (λ _. refl)
+    cond_both (is_key k) _ 0 (λ x. x ≡ 0) (λ _. no_excess (written_to k ws) (of_key k (first_records key_count)) one) (λ _. refl)
 
 module _ (b : Table) (t : ℕ) (ws : List Write) (fit_ws : fit_writes ws ≡ true) (later : b.last < t) where
   abbrev mem : List Record
@@ -179,7 +179,7 @@ module _ (b : Table) (t : ℕ) (ws : List Write) (fit_ws : fit_writes ws ≡ tru
   -- as many versions as records
   versions_after : versions_kept (with_writes 16 t ws m) ≡ length (after_writes 16 t ws rs)
   versions_after =
-      ap (versions_below keys) (λ i k. sym (kept_after k) i)
+      ap (versions_below key_count) (λ i k. sym (kept_after k) i)
       ∙ versions_together (after_writes 16 t ws rs) (keyed t (after_writes 16 t ws rs) sound_after)
 
   abbrev fits : Bool
@@ -189,7 +189,7 @@ module _ (b : Table) (t : ℕ) (ws : List Write) (fit_ws : fit_writes ws ≡ tru
   fit_agrees fit =
       ap (λ xs. nat_le (length (after_writes 16 t ws xs)) (room_in mem)) (sym (shown_fit mem b.list.kept fit))
       ∙ ap (λ k. nat_le k (room_in mem)) (sym versions_after)
-      ∙ ap (nat_le (versions_kept (with_writes 16 t ws m))) (fit_room mem fit ∙ sym (cond-true (is_table_size (length mem)) (length mem) keys fit))
+      ∙ ap (nat_le (versions_kept (with_writes 16 t ws m))) (fit_room mem fit ∙ sym (cond-true (is_table_size (length mem)) (length mem) key_count fit))
 
   -- in unfit memory there is no room for a write, and none in a new store of 64 versions
   unfit_agrees : is_table_size (length mem) ≡ false → fits ≡ nat_le (versions_kept (with_writes 16 t ws m)) m.capacity
@@ -197,15 +197,15 @@ module _ (b : Table) (t : ℕ) (ws : List Write) (fit_ws : fit_writes ws ≡ tru
       let none = unfit_room mem unfit in
       let some = (fit_some ws fit_ws) in
       let shown = shown_unfit mem b.list.kept unfit in
-      let first = first_records keys in
+      let first = first_records key_count in
       let e = per_key (λ k. excess 16 (written_to k ws) (of_key k first)) in
       let long = after_length 16 t ws listed _ (λ k. refl) in
       let all_stay = drops_none e first (first_excess ws) in
       let more = after_length 16 t ws first e (λ k. refl) in
-      let more_here : keys < versions_kept (with_writes 16 t ws m) =
-      omega (arith, some, more, versions_after, ap (λ xs. length (after_writes 16 t ws xs)) shown, ap length all_stay, first_length keys) in
+      let more_here : key_count < versions_kept (with_writes 16 t ws m) =
+      omega (arith, some, more, versions_after, ap (λ xs. length (after_writes 16 t ws xs)) shown, ap length all_stay, first_length key_count) in
       lt-leb _ _ (omega (arith, none, long, some))
-      ∙ sym (lt-leb _ _ (omega (arith, more_here, cond-false (is_table_size (length mem)) (length mem) keys unfit)))
+      ∙ sym (lt-leb _ _ (omega (arith, more_here, cond-false (is_table_size (length mem)) (length mem) key_count unfit)))
 
   room_agrees : fits ≡ nat_le (versions_kept (with_writes 16 t ws m)) m.capacity
   room_agrees = ⊎_elim fit_agrees unfit_agrees (cases_Bool (is_table_size (length mem)))
@@ -257,28 +257,28 @@ table_prune_unfit b h unfit i =
 -- A new store.
 
 -- fit memory whose list was empty, and has the records of a new store added
-module _ (empty l : RecordSlice) (none : empty.kept ≡ 0) (fit : is_table_size (length empty.memory.now) ≡ true) (is : listing l ≡ with_all (first_records keys) (listing empty)) where
-  now : listing l ≡ record { records = first_records keys; room = room_in empty.memory.now }
+module _ (empty l : RecordSlice) (none : empty.kept ≡ 0) (fit : is_table_size (length empty.memory.now) ≡ true) (is : listing l ≡ with_all (first_records key_count) (listing empty)) where
+  now : listing l ≡ record { records = first_records key_count; room = room_in empty.memory.now }
   now =
-      let long = first_length keys in
-      let enough : keys ≤ room_in empty.memory.now = grind (arith, nat_tests) in
+      let long = first_length key_count in
+      let enough : key_count ≤ room_in empty.memory.now = grind (arith, nat_tests) in
       is
-      ∙ ap (λ n. with_all (first_records keys) (listing_in empty.memory.now n)) none
-      ∙ room_for_all (first_records keys) (record { records = []; room = room_in empty.memory.now }) (omega (arith, long, enough))
+      ∙ ap (λ n. with_all (first_records key_count) (listing_in empty.memory.now n)) none
+      ∙ room_for_all (first_records key_count) (record { records = []; room = room_in empty.memory.now }) (omega (arith, long, enough))
 
   pub new_size : length l.memory.now ≡ length empty.memory.now
   new_size = same_length empty.memory.now l.memory.now (ap (λ m. m.room) now) fit
 
-  pub new_shown : shown_in l.memory.now l.kept ≡ first_records keys
+  pub new_shown : shown_in l.memory.now l.kept ≡ first_records key_count
   new_shown = shown_fit l.memory.now l.kept (ap is_table_size new_size ∙ fit) ∙ ap (λ m. m.records) now
 
 -- a table that shows the records of a new store
-module _ (mem : List Record) (n : ℕ) (shown : shown_in mem n ≡ first_records keys) where
+module _ (mem : List Record) (n : ℕ) (shown : shown_in mem n ≡ first_records key_count) where
   pub new_sound : (last : ℕ) → sound_table mem n last ≡ true
-  new_sound last = sound_at mem n last (first_records keys) shown (first_sound last) (first_order keys)
+  new_sound last = sound_at mem n last (first_records key_count) shown (first_sound last) (first_order key_count)
 
   pub new_meaning : (size : ℕ) → length mem ≡ size → table_meaning mem n 0 ≡ new_store (capacity_of size)
-  new_meaning size long = meaning_at mem n 0 (capacity_of size) (first_records keys) (new_store 0).kept (ap capacity_of long) shown first_kept
+  new_meaning size long = meaning_at mem n 0 (capacity_of size) (first_records key_count) (new_store 0).kept (ap capacity_of long) shown first_kept
 
   -- so it is sound, means a new store, and holds one
   pub new_in_fit : (size : ℕ) → length mem ≡ size → (is_table_size (length mem) ≡ true → zeros_after mem n ≡ true) → (sound_table mem n 0 ≡ true) × (table_meaning mem n 0 ≡ new_store (capacity_of size)) × HeldIn mem n 0

@@ -6,7 +6,7 @@ use Rattle.std.proofs.lemmas.Bool.Decides.{nat_tests}
 use Rattle.store.specs.Meaning.{Meaning}
 use Rattle.store.specs.declared.version.Version.{Version}
 use Rattle.table_store.proofs.Layouts.{cons_yes, cons_no}
-use Rattle.table_store.specs.Records.{has_key, no_record, of_key, record_of, version_in}
+use Rattle.table_store.specs.Records.{has_key, no_record, of_key, record_of, record_version}
 use Rattle.table_store.specs.Tables.{LaidOut, in_order, is_before}
 use Rattle.table_store.specs.declared.record.Record.{Record}
 
@@ -20,7 +20,7 @@ first_passes p k v vs (r ∷ rs) is a =
     let parts = and_parts (p r) (list_all p rs) a in
     ⊎_elim
     (λ here.
-    let same : version_in r ≡ v = cc (cons_yes k r rs here) in
+    let same : record_version r ≡ v = cc (cons_yes k r rs here) in
     let key = eqb-true r.key k here in
     subst (λ q. p q ≡ true) (λ i. record { key = key i; timestamp = (same i).timestamp; value = (same i).value }) parts.0)
     (λ other. first_passes p k v vs rs (sym (cons_no k r rs other) ∙ is) parts.1)
@@ -38,13 +38,13 @@ same_first : (x y : Record) (xs ys : List Record) → in_order (x ∷ xs) ≡ tr
 same_first x y xs ys ox oy same =
     ⊎_elim
     (λ here.
-    let versions : version_in y ≡ version_in x = cc (same x.key, cons_yes x.key x xs (itself x), cons_yes x.key y ys here) in
+    let versions : record_version y ≡ record_version x = cc (same x.key, cons_yes x.key x xs (itself x), cons_yes x.key y ys here) in
     let key = eqb-true y.key x.key here in
     λ i. record { key = sym key i; timestamp = (sym versions i).timestamp; value = (sym versions i).value })
     (λ other.
-    let y_first = first_passes (is_before y) x.key (version_in x) (of_key x.key xs) ys (sym (cons_no x.key y ys other) ∙ sym (same x.key) ∙ cons_yes x.key x xs (itself x)) (and_parts (list_all (is_before y) ys) (in_order ys) oy).0 in
+    let y_first = first_passes (is_before y) x.key (record_version x) (of_key x.key xs) ys (sym (cons_no x.key y ys other) ∙ sym (same x.key) ∙ cons_yes x.key x xs (itself x)) (and_parts (list_all (is_before y) ys) (in_order ys) oy).0 in
     let apart : has_key y.key x ≡ false = grind (arith, nat_tests) in
-    let x_first = first_passes (is_before x) y.key (version_in y) (of_key y.key ys) xs (sym (cons_no y.key x xs apart) ∙ same y.key ∙ cons_yes y.key y ys (itself y)) (and_parts (list_all (is_before x) xs) (in_order xs) ox).0 in
+    let x_first = first_passes (is_before x) y.key (record_version y) (of_key y.key ys) xs (sym (cons_no y.key x xs apart) ∙ same y.key ∙ cons_yes y.key y ys (itself y)) (and_parts (list_all (is_before x) xs) (in_order xs) ox).0 in
     absurd (not_both x y x_first y_first))
     (cases_Bool (has_key x.key y))
 

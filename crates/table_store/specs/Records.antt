@@ -41,12 +41,12 @@ with_all rs l = fold with_one_more l rs
 abbrev pub has_key : ℕ → Record → Bool
 has_key k r = r.key == k
 
-abbrev pub version_in : Record → Version
-version_in r = version_of r.timestamp r.value
+abbrev pub record_version : Record → Version
+record_version r = version_of r.timestamp r.value
 
 -- the versions of a key
 abbrev pub of_key : ℕ → List Record → List Version
-of_key k rs = map version_in (filter (has_key k) rs)
+of_key k rs = map record_version (filter (has_key k) rs)
 
 -- what is left when each key drops its first records, so many as are named for it
 abbrev pub drop_firsts : (ℕ → ℕ) → List Record → List Record

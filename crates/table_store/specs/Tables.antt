@@ -1,7 +1,7 @@
 -- The memory of a table store: what it lists, what it means, and how it is laid out.
 use Rattle.std.specs.Prelude.{◌≡◌, ℕ, ◌-◌, Bool, true, if◌then◌else◌, ◌&&◌, ◌||◌, List, [], ◌∷◌, ◌++◌, length, take, drop, replicate, Ok, Err, Result, ◌==◌, nat_le, nat_lt}
 use Rattle.std.specs.List.{AllByRecursion, list_all}
-use Rattle.snapshot.specs.Limits.{keys, least_records, most_records, is_key}
+use Rattle.snapshot.specs.Limits.{key_count, least_records, most_records, is_key}
 use Rattle.snapshot.specs.declared.fault.Fault.{Fault}
 use Rattle.snapshot.specs.declared.fault.Refusal.TheVariants.{UnfitMemory}
 use Rattle.store.specs.Meaning.{Meaning, store_fault}
@@ -35,11 +35,11 @@ zeros_after mem n = list_all is_zero (drop n mem)
 
 -- the records that it shows: those listed, or in unfit memory those of a new store
 abbrev pub shown_in : List Record → ℕ → List Record
-shown_in mem n = if is_table_size (length mem) then take n mem else first_records keys
+shown_in mem n = if is_table_size (length mem) then take n mem else first_records key_count
 
 -- as many as the memory has records; 64 in unfit memory, so that no commit fits
 abbrev pub capacity_of : ℕ → ℕ
-capacity_of size = if is_table_size size then size else keys
+capacity_of size = if is_table_size size then size else key_count
 
 abbrev pub table_meaning : List Record → ℕ → ℕ → Meaning
 table_meaning mem n last =

@@ -2,7 +2,7 @@
 ghost use Rattle.std.specs.Prelude.{◌≡◌, ◌<◌, true, false, length, OnErr, OnOk};
 ghost use Rattle.std.proofs.Common.{lit≤};
 ghost use Rattle.store.specs.Meaning.{new_store, newest_at, commit_answer, after_commit, after_prune, pruned_at, versions_kept, with_writes};
-ghost use Rattle.snapshot.specs.Limits.{is_key, keys};
+ghost use Rattle.snapshot.specs.Limits.{is_key, key_count};
 ghost use Rattle.table_store.specs.Records.{first_records, if_fits};
 ghost use Rattle.table_store.specs.Stores.{HoldsVersions, LeavesUnfit, meaning_of};
 ghost use Rattle.table_store.specs.Tables.{capacity_of, is_table_size, memory_check, shown_in, table_depth};
@@ -13,7 +13,7 @@ use crate::slice::{RecordSlice, is_fit};
 use crate::table::Table;
 use snapshot::account::{Reading, Write};
 use snapshot::fault::{Fault, Layer, Refusal};
-use store::checks::{check_commit, check_question};
+use store::checks::{check_commit, check_query};
 use store::traits::{Reads, Store};
 use store::update::Update;
 
@@ -87,7 +87,7 @@ impl<'a> Table<'a> {
 
 // The list of a new store in this memory; unfit memory is left alone.
 fn first_list(memory: &mut [Record]) -> RecordSlice<'_>
-    ensures shown { shown_in result.memory.now result.kept ≡ first_records keys }
+    ensures shown { shown_in result.memory.now result.kept ≡ first_records key_count }
     ensures size { length result.memory.now ≡ length memory.old }
     ensures alone { is_table_size (length memory.old) ≡ false → result.memory.now ≡ memory.old }
 {
@@ -106,7 +106,7 @@ impl Reads for Table<'_> {
     }
 
     fn version(&self, key: u8, time: u64) -> Result<Reading, Fault> {
-        check_question(key, time)?;
+        check_query(key, time)?;
         let gone = Fault::at_key(Refusal::VersionGone, Layer::Store, key);
         self.newest(key, time).ok_or(gone)
     }

@@ -1,6 +1,6 @@
 // The rules for a list of records, oldest first, whatever memory holds it.
 ghost use Rattle.std.specs.Prelude.{◌≡◌, ℕ, ◌-◌, ◌≤◌, length, map, OnOk, OnErr};
-ghost use Rattle.snapshot.specs.Limits.{keys};
+ghost use Rattle.snapshot.specs.Limits.{key_count};
 ghost use Rattle.store.specs.Meaning.{newest_at, outdated, written_to};
 ghost use Rattle.table_store.specs.PerKeys.{number_for, per_key};
 ghost use Rattle.table_store.specs.Records.{after_writes, drop_firsts, excess, first_records, if_fits, of_key, with_all, with_records, without_outdated, written};
@@ -119,7 +119,7 @@ fn append<L: RecordList>(log: &mut L, update: Update)
 
 // Adds the records of a new store, as far as there is room.
 pub(crate) fn start<L: RecordList>(log: &mut L)
-    ensures { L.listing log.new ≡ with_all (first_records keys) (L.listing log.old) }
+    ensures { L.listing log.new ≡ with_all (first_records key_count) (L.listing log.old) }
 {
     for key in 0..KEYS {
         log.push(Record {

@@ -1,7 +1,7 @@
 -- What was answered and what is left of the calls give the answers to all of them, and there is room for the rest.
 use Rattle.std.proofs.Common.{◌≡◌, ◌+◌, ◌≤◌, ◌++◌, length, drop, vec_items, vec_len, vec_capacity}
 use Rattle.engine.specs.Engines.{engine_of}
-use Rattle.engine.specs.Performing.{after_calls, answers_of}
+use Rattle.engine.specs.Performing.{engine_after_calls, answers_to}
 use Rattle.engine.proofs.run.perform_all.Given as goal
 
 abbrev pub invariant-loop-call : goal.invariant-loop-call
@@ -11,6 +11,6 @@ invariant-loop-call g l =
     let before = engine_of m l.initial.engine in
     let here = engine_of m l.engine in
     let rest = drop l.call-index l.calls in
-    (vec_items l.answers ++ answers_of depth rest here ≡ vec_items l.initial.answers ++ answers_of depth l.calls before)
-    × (after_calls depth rest here ≡ after_calls depth l.calls before)
+    (vec_items l.answers ++ answers_to depth rest here ≡ vec_items l.initial.answers ++ answers_to depth l.calls before)
+    × (engine_after_calls depth rest here ≡ engine_after_calls depth l.calls before)
     × (vec_len l.answers + length l.calls ≤ vec_capacity l.answers + l.call-index)

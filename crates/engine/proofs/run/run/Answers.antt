@@ -1,7 +1,7 @@
 use Rattle.std.proofs.Common.{ap, ◌∙◌}
 use Rattle.std.proofs.lemmas.Result.{MatchResult-weaker}
-use Rattle.engine.specs.Performing.{after_calls}
-use Rattle.engine.proofs.LifeLemmas.{run_keeps_law}
+use Rattle.engine.specs.Performing.{engine_after_calls}
+use Rattle.engine.proofs.TraceLemmas.{run_keeps_law}
 use Rattle.engine.proofs.run.run.Goals as goal
 
 pub returns-clause-law : goal.returns-clause-law
@@ -9,5 +9,5 @@ returns-clause-law g c =
     let depth = g.S.Store.depth in
     let calls = c.args.calls.now in
     MatchResult-weaker c.perform_all-done.result c.perform_all-done.ensures.after
-    (λ _ is. run_keeps_law depth calls (g.S.Reads.meaning c.args.store) _ (is ∙ ap (after_calls depth calls) c.new-engine.ensures.value))
+    (λ _ is. run_keeps_law depth calls (g.S.Reads.meaning c.args.store) _ (is ∙ ap (engine_after_calls depth calls) c.new-engine.ensures.value))
     (λ _ _. tt)

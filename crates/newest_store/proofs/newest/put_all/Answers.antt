@@ -3,7 +3,7 @@ use Rattle.std.proofs.Common.{◌<◌, sym, ap, ◌∙◌, arith}
 use Rattle.std.proofs.ByRecursion.{All-get_or}
 use Rattle.std.proofs.lemmas.List.{at_drop_all}
 use Rattle.snapshot.specs.Accounts.{zero_write}
-use Rattle.snapshot.specs.Limits.{keys}
+use Rattle.snapshot.specs.Limits.{key_count}
 use Rattle.newest_store.specs.Newest.{version_at}
 use Rattle.store.proofs.Writes.{fit_rises, rising_keys}
 use Rattle.newest_store.proofs.Putting.{put_all, put_gives}
@@ -12,7 +12,7 @@ use Rattle.newest_store.proofs.newest.put_all.Goals as goal
 pub bounds-versions-from : goal.bounds-versions-from
 bounds-versions-from c =
     let ws = c.args.update.writes.now in
-    omega (arith, c.from.ensures, All-get_or (λ w. w.key < keys) ws c.loop-write.write-index zero_write c.loop-write-test.true (rising_keys 0 ws (fit_rises ws c.args.update.fit)))
+    omega (arith, c.from.ensures, All-get_or (λ w. w.key < key_count) ws c.loop-write.write-index zero_write c.loop-write-test.true (rising_keys 0 ws (fit_rises ws c.args.update.fit)))
 
 pub returns : goal.returns
 returns c k =

@@ -1,10 +1,10 @@
 -- Each line prints what the rules draw for it, and the last leaves nothing.
 use Rattle.std.proofs.Common.{◌+◌, ◌∷◌, [], Some, refl, ap, ◌∙◌}
-use Rattle.script.specs.Played.{played, printed, said_in, told_bad}
+use Rattle.script.specs.Played.{played, printed, said_in, bad_line}
 use Rattle.script.specs.declared.line.Line.TheVariants as line
 use Rattle.script.proofs.PlayProofs.{closes, ends, nothing, on_ok, steps}
 use Rattle.script.proofs.play.play.Goals as goal
-use Rattle.script.proofs.play.play.Goals.{in-Blank, in-Bad+in_ok-tell_bad-in-Bad}
+use Rattle.script.proofs.play.play.Goals.{in-Blank, in-Bad+in_ok-write_bad-in-Bad}
 
 pub returns-in_default-clause-prints : goal.returns-in_default-clause-prints
 returns-in_default-clause-prints g c =
@@ -90,7 +90,7 @@ loop-number-preserved g c =
           (c.in-Some.is ∙ ap Some w.in-Blank.is)
           (rw w.output-is (nothing (g.W.Write.contents c.loop-number.output)))
           (λ rest lines. ap (played number) lines)
-      | in-Bad+in_ok-tell_bad-in-Bad w ↦ steps
+      | in-Bad+in_ok-write_bad-in-Bad w ↦ steps
           (g.R.Read.remaining c.args.input.now)
           (g.R.Read.remaining c.loop-number.input)
           (g.R.Read.remaining c.next_line.new.input)
@@ -102,11 +102,11 @@ loop-number-preserved g c =
           (λ rest. played (number + 1) (said_in rest))
           c.in_ok-line.field-0
           line.Bad
-          (told_bad number)
+          (bad_line number)
           c.loop-number.invariant
           c.in_ok-line.ensures.said
           c.in_ok-line.ensures.rest
           (c.in-Some.is ∙ ap Some w.in-Bad.is)
-          (rw w.output-is w.in_ok-tell_bad-in-Bad.ensures)
+          (rw w.output-is w.in_ok-write_bad-in-Bad.ensures)
           (λ rest lines. ap (played number) lines)
     ]

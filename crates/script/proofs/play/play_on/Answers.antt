@@ -42,7 +42,7 @@ loop-number-preserved g c =
     c.in_ok-line.ensures.said
     c.in_ok-line.ensures.rest
     c.in-Some.is
-    c.in_ok-play_line.ensures.told
+    c.in_ok-play_line.ensures.writes
     (λ rest lines.
     ap (played_on g.S.Store.depth engine number) lines
     ∙ ap

@@ -1,6 +1,6 @@
 -- Each turn answers the next call; the room that was reserved is enough for all.
 use Rattle.std.proofs.Common.{◌++◌, vec_items, sym, refl, ap, ◌∙◌}
-use Rattle.store.specs.Calls.{answers_of}
+use Rattle.store.specs.Calls.{store_answers}
 use Rattle.store.proofs.Keeping.{calls_keep_laws}
 use Rattle.store.proofs.Runs.{answers_all, after_all_calls}
 use Rattle.store.proofs.calls.run.Goals as goal
@@ -16,7 +16,7 @@ returns g c =
     record {
       answers = sym (answers_all depth calls i past m (vec_items c.loop-call.answers))
           ∙ c.loop-call.invariant.0
-          ∙ ap (λ xs. xs ++ answers_of depth calls (g.S.Reads.meaning c.args.store.now)) c.in_ok-reserve.ensures.items;
+          ∙ ap (λ xs. xs ++ store_answers depth calls (g.S.Reads.meaning c.args.store.now)) c.in_ok-reserve.ensures.items;
       after = left;
       succeeds = λ _. refl;
       laws = calls_keep_laws depth g.S.Store.not_none calls _ m left;

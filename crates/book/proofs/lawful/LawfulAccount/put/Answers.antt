@@ -1,7 +1,7 @@
 -- Head, readings, writes and last byte, one after the other.
 use Rattle.std.proofs.Common.{◌≡◌, ◌++◌, length, refl, arith}
 use Rattle.std.specs.List.{flat_map}
-use Rattle.book.specs.Format.{reading_bytes, write_bytes, head_bytes, told}
+use Rattle.book.specs.Format.{reading_bytes, write_bytes, head_bytes, as_account}
 use Rattle.snapshot.proofs.Overwritten.{part_more}
 use Rattle.book.proofs.Records.{length_readings}
 use Rattle.book.proofs.Writing.{last_written}
@@ -9,7 +9,7 @@ use Rattle.book.proofs.lawful.LawfulAccount.put.Goals as goal
 
 pub returns : goal.returns
 returns c =
-    let a = told c.args.self.now.account in
+    let a = as_account c.args.self.now.account in
     let old = c.args.buffer.now in
     let head = head_bytes a in
     let rs = flat_map reading_bytes a.readings in

@@ -3,7 +3,7 @@ use Rattle.std.proofs.Math.ListN.{get_or-map}
 use Rattle.std.proofs.lemmas.List.{length-map}
 use Rattle.snapshot.specs.Accounts.{zero_reading}
 use Rattle.snapshot.specs.declared.account.ChainReading.{ChainReading}
-use Rattle.lives.specs.declared.records.LegReading.{LegReading}
+use Rattle.engine_model.specs.declared.records.LegReading.{LegReading}
 use Rattle.engine.specs.Chains.{chain_of}
 use Rattle.engine.proofs.CommitLemmas.{filled_more}
 use Rattle.engine.proofs.chain.Chain.fill.Goals as goal

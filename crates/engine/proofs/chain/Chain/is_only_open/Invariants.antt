@@ -1,5 +1,5 @@
 use Rattle.std.proofs.Common.{◌≡◌}
-use Rattle.lives.specs.Steps.{only_open}
+use Rattle.engine_model.specs.Steps.{only_open}
 use Rattle.engine.specs.Chains.{chain_of}
 use Rattle.engine.proofs.chain.Chain.is_only_open.Given as goal
 

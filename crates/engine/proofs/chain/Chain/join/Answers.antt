@@ -2,13 +2,13 @@ use Rattle.std.proofs.Common.{◌≡◌, eqb, ltb, true, false, Some, Ok, rules}
 use Rattle.engine.proofs.ChainLemmas.{both_end, legs_joined}
 use Rattle.engine.specs.Chains.{chain_of}
 use Rattle.engine.specs.Legs.{open_leg_of, open_in, joined_leg}
-use Rattle.engine.specs.Workers.{number_of}
+use Rattle.engine.specs.Workers.{worker_number}
 use Rattle.engine.proofs.chain.Chain.join.Goals as goal
 
 pub returns-clause-made : goal.returns-clause-made
 returns-clause-made c =
     let n = c.args.named in
-    let w = number_of c.args.worker in
+    let w = worker_number c.args.worker in
     let chain = chain_of c.args.self.now in
     let j = c.args.second in
     let one = open_leg_of c.in-Some.open.now in

@@ -3,7 +3,7 @@ use Rattle.std.proofs.lemmas.Bool.Decides.{nat_tests}
 use Rattle.std.proofs.lemmas.List.{get_or_default}
 use Rattle.std.specs.Option.{option_map, option_copied}
 use Rattle.engine_parts.proofs.ItemLemmas.{item_there, item_past}
-use Rattle.lives.specs.Engines as model
+use Rattle.engine_model.specs.Engines as model
 use Rattle.engine.specs.Legs.{leg_of, open_leg_of, open_in}
 use Rattle.engine.specs.declared.leg.Leg.TheVariants as leg
 use Rattle.engine.proofs.chain.Chain.open_leg.Goals as goal

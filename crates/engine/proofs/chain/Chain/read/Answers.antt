@@ -7,10 +7,10 @@ use Rattle.engine_parts.proofs.ItemLemmas.{item_set, item_there}
 use Rattle.engine_parts.specs.Caches.{cache_of}
 use Rattle.engine_parts.specs.Caches.{caches_of}
 use Rattle.engine_parts.specs.declared.cache.Cache.{Cache}
-use Rattle.lives.specs.Caches as model_caches
-use Rattle.lives.specs.Engines as model
-use Rattle.lives.specs.Steps.{after_reading}
-use Rattle.lives.specs.Updates.{with_at}
+use Rattle.engine_model.specs.Caches as model_caches
+use Rattle.engine_model.specs.Engines as model
+use Rattle.engine_model.specs.Steps.{after_reading}
+use Rattle.engine_model.specs.Updates.{with_at}
 use Rattle.engine.proofs.ReadLemmas.{Further, read_answered, read_refused}
 use Rattle.engine.specs.ChainCalls.{further_reading}
 use Rattle.engine.specs.Chains.{chain_of}

@@ -2,7 +2,7 @@ use Rattle.std.proofs.Common.{◌<◌, Some, None, Err, length, get_or, ap, ◌�
 use Rattle.std.proofs.lemmas.Bool.Decides.{nat_tests}
 use Rattle.std.proofs.lemmas.Result.{err_from_is_err_and}
 use Rattle.snapshot.specs.declared.fault.Refusal.TheVariants.{NotOpen}
-use Rattle.lives.specs.Steps.{chain_fault}
+use Rattle.engine_model.specs.Steps.{chain_fault}
 use Rattle.engine.specs.Chains.{chain_of}
 use Rattle.engine.specs.Engines.{engine_of}
 use Rattle.engine.specs.Naming.{place_in_range}

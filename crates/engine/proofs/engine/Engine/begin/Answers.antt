@@ -3,8 +3,8 @@ use Rattle.std.proofs.lemmas.Bool.Decides.{nat_tests}
 use Rattle.std.proofs.lemmas.Result.{err_from_is_err_and}
 use Rattle.snapshot.specs.Limits.{is_place, is_worker}
 use Rattle.snapshot.specs.declared.fault.Refusal.TheVariants.{PlaceOccupied}
-use Rattle.lives.specs.Engines as model
-use Rattle.lives.specs.Steps.{chain_fault}
+use Rattle.engine_model.specs.Engines as model
+use Rattle.engine_model.specs.Steps.{chain_fault}
 use Rattle.engine.specs.Chains.{chain_of}
 use Rattle.engine.specs.Engines.{engine_of}
 use Rattle.engine.specs.Naming.{place_in_range}

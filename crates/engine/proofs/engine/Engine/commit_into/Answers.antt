@@ -4,7 +4,7 @@ use Rattle.std.proofs.lemmas.Bool.Decides.{nat_tests}
 use Rattle.std.proofs.lemmas.Result.{err_from_is_err_and}
 use Rattle.snapshot.specs.Refusals.{around_store}
 use Rattle.snapshot.specs.declared.fault.Refusal.TheVariants.{NotOpen}
-use Rattle.lives.specs.Steps.{account_for, chain_fault}
+use Rattle.engine_model.specs.Steps.{account_for, chain_fault}
 use Rattle.engine.specs.Chains.{chain_of}
 use Rattle.engine.specs.Engines.{engine_of}
 use Rattle.engine.specs.Legs.{open_leg_of}

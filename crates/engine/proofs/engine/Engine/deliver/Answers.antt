@@ -13,5 +13,5 @@ returns-in_default-clause-step g c =
 pub returns-clause-step : goal.returns-clause-step
 returns-clause-step g c =
     let s = engine_of g.S.Reads.meaning c.args.self.now in
-    left_after _ _ _ _ (caches_changed g.S.Reads.meaning c.args.self.now c.tell.new.caches _ c.tell.ensures)
+    left_after _ _ _ _ (caches_changed g.S.Reads.meaning c.args.self.now c.notify.new.caches _ c.notify.ensures)
     (deliver_is_step g.S.Store.depth c.args.position s c.in-Some.notice (sym c.get.ensures ∙ c.in-Some.is))

@@ -1,7 +1,7 @@
 use Rattle.std.proofs.Common.{Ok, Err, refl, sym, ap, ◌∙◌}
 use Rattle.std.proofs.lemmas.Result.{err_from_is_err_and}
-use Rattle.lives.specs.declared.calls.Call.TheVariants as call
-use Rattle.engine.specs.Performing.{shown_of}
+use Rattle.engine_model.specs.declared.calls.Call.TheVariants as call
+use Rattle.engine.specs.Performing.{as_result}
 use Rattle.engine.proofs.PerformLemmas.{accepts, performs, shows}
 use Rattle.engine.proofs.engine.Engine.dispatch.Goals as goal
 
@@ -17,12 +17,12 @@ pub returns-in_err-first-in-Fork-clause-step : goal.returns-in_err-first-in-Fork
 returns-in_err-first-in-Fork-clause-step g c =
     let exit = err_from_is_err_and c.from_residual.result c.from_residual.ensures.1 in
     performs g.S.Store.depth c.args.call (call.Fork c.in-Fork.place c.in-Fork.leg c.in-Fork.first_worker c.in-Fork.second_worker) _ _ _ _ c.in-Fork.is
-    (exit.1 ∙ ap Err exit.2 ∙ sym (ap (shown_of (call.Fork c.in-Fork.place c.in-Fork.leg c.in-Fork.first_worker c.in-Fork.second_worker)) c.in_err-first-in-Fork.was)) c.fork.ensures.step
+    (exit.1 ∙ ap Err exit.2 ∙ sym (ap (as_result (call.Fork c.in-Fork.place c.in-Fork.leg c.in-Fork.first_worker c.in-Fork.second_worker)) c.in_err-first-in-Fork.was)) c.fork.ensures.step
 
 pub returns-in_ok-first-in-Fork-clause-step : goal.returns-in_ok-first-in-Fork-clause-step
 returns-in_ok-first-in-Fork-clause-step g c =
     performs g.S.Store.depth c.args.call (call.Fork c.in-Fork.place c.in-Fork.leg c.in-Fork.first_worker c.in-Fork.second_worker) _ _ _ _ c.in-Fork.is
-    (sym (ap (shown_of (call.Fork c.in-Fork.place c.in-Fork.leg c.in-Fork.first_worker c.in-Fork.second_worker)) c.in_ok-first-in-Fork.was)) c.fork.ensures.step
+    (sym (ap (as_result (call.Fork c.in-Fork.place c.in-Fork.leg c.in-Fork.first_worker c.in-Fork.second_worker)) c.in_ok-first-in-Fork.was)) c.fork.ensures.step
 
 pub returns-in-Join-clause-step : goal.returns-in-Join-clause-step
 returns-in-Join-clause-step g c =

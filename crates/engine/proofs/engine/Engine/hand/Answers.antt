@@ -4,12 +4,12 @@ use Rattle.std.proofs.lemmas.Result.{err_from_is_err_and}
 use Rattle.snapshot.specs.Limits.{is_place, is_leg, is_worker}
 use Rattle.snapshot.specs.Refusals.{not_named}
 use Rattle.snapshot.specs.declared.fault.Refusal.TheVariants.{NotOpen}
-use Rattle.lives.specs.Steps.{chain_fault}
+use Rattle.engine_model.specs.Steps.{chain_fault}
 use Rattle.engine.specs.Chains.{chain_of}
 use Rattle.engine.specs.ChainCalls.{after_hand}
 use Rattle.engine.specs.Engines.{engine_of}
 use Rattle.engine.specs.Naming.{naming, leg_in_range}
-use Rattle.engine.specs.Workers.{number_of}
+use Rattle.engine.specs.Workers.{worker_number}
 use Rattle.engine.proofs.EngineLemmas.{failed, passed, no_worker, worker_is, stands, called, refused_out, refused_missing}
 use Rattle.engine.proofs.ChainSteps.{hand_is_step}
 use Rattle.engine.proofs.engine.Engine.hand.Goals as goal
@@ -42,7 +42,7 @@ returns-clause-step g c =
     let p = c.args.place in
     let l = c.args.leg in
     let n = naming p l not_named in
-    let w = number_of c.in_ok-worker.worker in
+    let w = worker_number c.in_ok-worker.worker in
     let chain = c.in-Some.chain in
     let leg = passed leg_in_range _ _ _ _ c.leg-named.ensures c.check_leg.ensures c.in_ok-check_leg.was in
     let worker = worker_is _ c.args.worker _ _ c.worker.ensures c.in_ok-worker.was in

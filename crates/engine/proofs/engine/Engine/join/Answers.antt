@@ -4,12 +4,12 @@ use Rattle.std.proofs.lemmas.Result.{err_from_is_err_and}
 use Rattle.snapshot.specs.Limits.{is_place, is_leg, is_worker}
 use Rattle.snapshot.specs.Refusals.{not_named}
 use Rattle.snapshot.specs.declared.fault.Refusal.TheVariants.{NotOpen}
-use Rattle.lives.specs.Steps.{chain_fault}
+use Rattle.engine_model.specs.Steps.{chain_fault}
 use Rattle.engine.specs.Chains.{chain_of}
 use Rattle.engine.specs.ChainCalls.{after_join}
 use Rattle.engine.specs.Engines.{engine_of}
 use Rattle.engine.specs.Naming.{naming, leg_in_range}
-use Rattle.engine.specs.Workers.{number_of}
+use Rattle.engine.specs.Workers.{worker_number}
 use Rattle.engine.proofs.EngineLemmas.{failed, passed, no_worker, worker_is, stands, called, refused_out, refused_missing}
 use Rattle.engine.proofs.ChainSteps.{join_is_step}
 use Rattle.engine.proofs.engine.Engine.join.Goals as goal
@@ -51,7 +51,7 @@ returns-clause-step g c =
     let j = c.args.second_leg in
     let n = naming p l not_named in
     let chain = c.in-Some.chain in
-    let w = number_of c.in_ok-worker.worker in
+    let w = worker_number c.in_ok-worker.worker in
     let leg = passed leg_in_range _ _ _ _ c.leg-named.ensures c.check_leg.ensures c.in_ok-check_leg.was in
     let second = passed (λ n. c.is_leg.result) _ _ _ _ c.leg-named.ensures c.check.ensures c.in_ok-check.was in
     let worker = worker_is _ c.args.worker _ _ c.worker.ensures c.in_ok-worker.was in

@@ -1,5 +1,5 @@
 use Rattle.std.proofs.Common.{rules}
-use Rattle.engine.proofs.LifeLemmas.{begins}
+use Rattle.engine.proofs.TraceLemmas.{begins}
 use Rattle.engine.proofs.engine.Engine.new.Goals as goal
 
 pub returns-clause-begins : goal.returns-clause-begins

@@ -1,5 +1,5 @@
 use Rattle.engine.specs.Engines.{engine_of}
-use Rattle.engine.proofs.LifeLemmas.{goes_on}
+use Rattle.engine.proofs.TraceLemmas.{goes_on}
 use Rattle.engine.proofs.engine.Engine.perform.Goals as goal
 
 pub returns-clause-law : goal.returns-clause-law

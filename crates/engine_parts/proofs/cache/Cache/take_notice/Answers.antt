@@ -2,7 +2,7 @@ use Rattle.std.proofs.Common.{◌≡◌, ◌<◌, None, Some, length, sym, ◌�
 use Rattle.engine_parts.proofs.ListProofs.{something_there}
 use Rattle.std.specs.List.{slice_get}
 use Rattle.engine_parts.specs.Caches.{cache_of}
-use Rattle.engine_parts.proofs.CacheLemmas.{place_of, nothing_told, told_at}
+use Rattle.engine_parts.proofs.CacheLemmas.{place_of, nothing_observed, notified_at}
 use Rattle.engine_parts.proofs.cache.Cache.take_notice.Goals as goal
 
 pub returns-in_default : goal.returns-in_default
@@ -11,7 +11,7 @@ returns-in_default c =
     let xs = cache_of c.args.self.now in
     let none : place_of n.key xs ≡ None =
     ap (place_of n.key) (sym c.as_slice.ensures.value) ∙ sym c.find.ensures.value ∙ c.in_default.is in
-    sym (nothing_told n xs none)
+    sym (nothing_observed n xs none)
 
 pub returns-in-Some-get : goal.returns-in-Some-get
 returns-in-Some-get c =
@@ -22,7 +22,7 @@ returns-in-Some-get c =
     let there : place_of n.key xs ≡ Some i =
     ap (place_of n.key) (sym c.as_slice.ensures.value) ∙ sym c.find.ensures.value ∙ c.in-Some.is in
     let held : slice_get xs i ≡ Some e = sym c.get.ensures ∙ c.in-Some-get.is in
-    let told = told_at n xs i e there held in
+    let notified = notified_at n xs i e there held in
     cc
 
 pub returns-in_default-get : goal.returns-in_default-get

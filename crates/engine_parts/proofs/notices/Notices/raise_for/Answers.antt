@@ -1,9 +1,9 @@
 use Rattle.std.proofs.Common.{ℕ, [], slice_index_or, sym, ap, ◌∙◌, arith}
-use Rattle.lives.specs.Caches.{holds}
+use Rattle.engine_model.specs.Caches.{holds}
 use Rattle.engine_parts.specs.Caches.{cache_of, caches_of}
 use Rattle.engine_parts.specs.WaitingNotices.{notices_of}
 use Rattle.engine_parts.proofs.ItemLemmas.{item_there}
-use Rattle.engine_parts.proofs.NoticeLemmas.{one_is_told, one_is_not, one_write_less}
+use Rattle.engine_parts.proofs.NoticeLemmas.{one_is_notified, one_is_not, one_write_less}
 use Rattle.engine_parts.proofs.notices.Notices.raise_for.Goals as goal
 use Rattle.engine_parts.proofs.notices.Notices.raise_for.Goals.{then-holds, else-holds}
 
@@ -18,7 +18,7 @@ loop-worker-preserved c =
       | then-holds w ↦
           ap notices_of w.self-is
           ∙ w.raise.ensures
-          ∙ one_is_told holder _ write n _ _ c.loop-worker.invariant (ap (holds write.key) there ∙ sym w.if-holds.ensures)
+          ∙ one_is_notified holder _ write n _ _ c.loop-worker.invariant (ap (holds write.key) there ∙ sym w.if-holds.ensures)
       | else-holds w ↦
           ap notices_of w.self-is
           ∙ one_is_not holder _ write n _ _ c.loop-worker.invariant (ap (holds write.key) there ∙ sym w.if-holds.ensures)

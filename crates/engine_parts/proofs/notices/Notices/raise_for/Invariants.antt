@@ -1,6 +1,6 @@
 use Rattle.std.proofs.Common.{◌≡◌, drop}
-use Rattle.lives.specs.Caches.{holds}
-use Rattle.lives.specs.Notices.{raise_below, raise_all}
+use Rattle.engine_model.specs.Caches.{holds}
+use Rattle.engine_model.specs.Notices.{raise_below, raise_all}
 use Rattle.engine_parts.specs.Caches.{caches_of}
 use Rattle.engine_parts.specs.WaitingNotices.{notices_of}
 use Rattle.engine_parts.proofs.notices.Notices.raise_for.Given as goal

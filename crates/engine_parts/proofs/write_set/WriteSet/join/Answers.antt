@@ -1,5 +1,5 @@
 use Rattle.std.proofs.lemmas.Result.{err_from_is_err_and}
-use Rattle.lives.specs.WriteSets.{united}
+use Rattle.engine_model.specs.WriteSets.{united}
 use Rattle.engine_parts.specs.WriteSets.{writes_of}
 use Rattle.engine_parts.proofs.WriteSetLemmas.{join_refused, join_done}
 use Rattle.engine_parts.proofs.write_set.WriteSet.join.Goals as goal

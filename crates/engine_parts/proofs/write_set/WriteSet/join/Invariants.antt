@@ -1,6 +1,6 @@
 use Rattle.std.proofs.Common.{◌≡◌, ◌≤◌, length, drop}
 use Rattle.snapshot.specs.Limits.{write_keys}
-use Rattle.lives.specs.WriteSets.{united}
+use Rattle.engine_model.specs.WriteSets.{united}
 use Rattle.engine_parts.specs.WriteSets.{writes_of}
 use Rattle.engine_parts.proofs.write_set.WriteSet.join.Given as goal
 

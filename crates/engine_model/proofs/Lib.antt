@@ -1,0 +1,17 @@
+pub mod Updates
+pub mod WriteSetProofs
+pub mod CacheProofs
+pub mod CacheShapeProofs
+pub mod Readings
+pub mod Outcomes
+pub mod ShapedTraces
+pub mod Sound
+pub mod Legs
+pub mod NoticeProofs
+pub mod Changes
+pub mod CallProofs
+pub mod CommitProofs
+pub mod GoneProofs
+pub mod TraceProofs
+pub mod StoreRefusalProofs
+pub mod ExampleProofs

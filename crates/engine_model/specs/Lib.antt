@@ -1,0 +1,13 @@
+pub mod Updates
+pub mod WriteSets
+pub mod Caches
+pub mod Rules
+pub mod RuleLaws
+pub mod Engines
+pub mod Notices
+pub mod Steps
+pub mod Traces
+pub mod CacheShape
+pub mod Law
+pub mod StoreRefusals
+pub mod Examples
