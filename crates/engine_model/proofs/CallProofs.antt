@@ -1,5 +1,5 @@
 -- Every call but commit keeps the invariant of a trace.
-use Rattle.std.proofs.Common.{◌≡◌, ℕ, suc, ◌<◌, ◌≤◌, min, max, true, if◌then◌else◌, ◌&&◌, ◌==◌, nat_le, List, [], ◌∷◌, length, Some, None, Ok, Option, sym, refl, ap, ◌∙◌, subst, ⊎_elim, arith}
+use Rattle.std.proofs.Common.{◌≡◌, ℕ, suc, ◌<◌, ◌≤◌, min, max, true, if◌then◌else◌, ◌&&◌, ◌==◌, nat_le, List, [], ◌∷◌, length, is_some, Some, None, Ok, Option, sym, refl, ap, ◌∙◌, subst, ⊎_elim, arith}
 use Rattle.std.specs.Option.{option_or}
 use Rattle.std.specs.List.{ContainsAt as Has, AllByRecursion}
 use Rattle.std.proofs.ByRecursion.{all-has, All-weaker, has_append_right}
@@ -14,7 +14,7 @@ use Rattle.store.specs.Meaning.{Meaning, after_prune, written_to}
 use Rattle.store.proofs.Standing.{prune_stands}
 use Rattle.engine_model.specs.Caches.{Cache, entry_of}
 use Rattle.engine_model.specs.Engines.{OpenLeg, running, on_worker, Chain, new_chain, Engine}
-use Rattle.engine_model.specs.Traces.{NewStore, ObservedChain, nothing_observed, history_with, store_with, observed_with}
+use Rattle.engine_model.specs.Traces.{NewStore, ObservedLeg, observed_leg, ObservedChain, nothing_observed, leg_opened, history_with, store_with, observed_with}
 use Rattle.engine_model.specs.RuleLaws.{AddedTo, WidenedBy, AfterNotice, PartsWithLaws, rules_of}
 use Rattle.engine_model.specs.Rules.{Rules}
 use Rattle.engine_model.specs.Steps.{AnswerTo, StepOutcome, answer_in, engine_in, step, own_reading, answered_by}
@@ -26,6 +26,7 @@ use Rattle.engine_model.specs.declared.records.CacheEntry.{CacheEntry}
 use Rattle.engine_model.specs.declared.records.LegReading.{LegReading}
 use Rattle.engine_model.specs.declared.records.Notice.{Notice}
 use Rattle.engine_model.proofs.Changes.{chain_at, place_sound, free_sound, more_observed, cache_sound}
+use Rattle.engine_model.proofs.FirstReads.{read_where_own}
 use Rattle.engine_model.proofs.Legs.{NoWider, leg_sound, on_worker_lem, also_open, hand_sound, write_leg_sound, join_sound, read_again, read_sound, begin_sound}
 use Rattle.engine_model.proofs.NoticeProofs.{at_position, all_removed}
 use Rattle.engine_model.proofs.Outcomes.{at_check, at_chain, at_open, at_open_leg, at_free, at_result, at_else}
@@ -88,7 +89,7 @@ module _
         let P : StepOutcome ℕ → Type 0 = Kept (call.Begin p w) in
         at_check P _ _ _ sound (λ range.
         at_free P _ _ _ sound (λ free.
-        place_sound store limits h observed m s sound p nothing_observed (Some (new_chain w)) (begin_sound h last limits w (and_parts _ _ range).1)))
+        place_sound store limits h observed m s sound p (leg_opened 0 w (λ k. None) nothing_observed) (Some (new_chain w)) (begin_sound h last limits w (and_parts _ _ range).1)))
 
     pub hand_keeps : (p l w : ℕ) → Kept (call.Hand p l w) (step rules store.depth (call.Hand p l w) s)
     hand_keeps p l w =
@@ -108,7 +109,7 @@ module _
         let before = chain_at store limits h observed m s sound p chain here in
         let workers = and_parts _ _ range in
         let first = hand_sound h last limits (observed p) chain before l leg is_open w (and_parts _ _ workers.0).1 (omega arith) in
-        place_sound store limits h observed m s sound p _ (Some _) (also_open h last limits _ _ first (on_worker v leg) ((observed p).written l) lt (on_worker_lem h last limits (observed p) chain before l leg is_open v workers.1)))))
+        place_sound store limits h observed m s sound p _ (Some _) (also_open h last limits _ _ first (on_worker v leg) v ((observed p).legs l).written lt (on_worker_lem h last limits (observed p) chain before l leg is_open v workers.1)))))
 
     pub join_keeps : (p l j w : ℕ) → Kept (call.Join p l j w) (step rules store.depth (call.Join p l j w) s)
     join_keeps p l j w =
@@ -126,7 +127,7 @@ module _
         let second = leg_sound last limits (observed p) chain before.legs j other other_open in
         let ws : List Write = parts.write_sets.after_join leg.writes other.writes in
         let new : OpenLeg = record { worker = w; interval = i; writes = ws } in
-        let written : ℕ → Option ℕ = λ k. option_or ((observed p).written j k) ((observed p).written l k) in
+        let written : ℕ → Option ℕ = λ k. option_or (((observed p).legs j).written k) (((observed p).legs l).written k) in
         let times : TimesSound last chain.readings i = record {
           some = both.some;
           to_open_end = omega (arith, both.high, first.times.to_open_end);
@@ -139,12 +140,12 @@ module _
           few = leb-true _ _ few;
           as_observed = λ k. parts.write_set_laws.join_has leg.writes other.writes k first.writes.rising second.writes.rising
               ∙ ap (λ o. option_or o (written_to k leg.writes)) (second.writes.as_observed k)
-              ∙ ap (λ o. option_or ((observed p).written j k) o) (first.writes.as_observed k);
+              ∙ ap (λ o. option_or (((observed p).legs j).written k) o) (first.writes.as_observed k);
         } in
-        let new_sound : LegSound last limits chain.readings written new = record { worker = (and_parts _ _ range).1; times = times; writes = sound_writes } in
+        let new_sound : LegSound last limits chain.readings (observed_leg w written) new = record { worker = (and_parts _ _ range).1; same_worker = refl; times = times; writes = sound_writes } in
         let no_wider_first : NoWider leg new = record { low = omega (arith, both.low); high = omega (arith, both.high) } in
         let no_wider_second : NoWider other new = record { low = omega (arith, both.low); high = omega (arith, both.high) } in
-        place_sound store limits h observed m s sound p _ (Some _) (join_sound h last limits (observed p) chain before l leg is_open j other other_open new no_wider_first no_wider_second written (ltb-true _ _ room) new_sound))))))))
+        place_sound store limits h observed m s sound p _ (Some _) (join_sound h last limits (observed p) chain before l leg is_open j other other_open new no_wider_first no_wider_second w written (ltb-true _ _ room) new_sound))))))))
 
     pub write_keeps : (p l k x : ℕ) → Kept (call.Write p l k x) (step rules store.depth (call.Write p l k x) s)
     write_keeps p l k x =
@@ -155,12 +156,12 @@ module _
         let w : Write = record { key = k; value = x } in
         let before = chain_at store limits h observed m s sound p chain here in
         let of_leg = leg_sound last limits (observed p) chain before.legs l leg is_open in
-        let sound_writes : WritesSound limits (with_at k (Some x) ((observed p).written l)) (parts.write_sets.after_write w leg.writes) = record {
+        let sound_writes : WritesSound limits (with_at k (Some x) ((observed p).legs l).written) (parts.write_sets.after_write w leg.writes) = record {
           rising = parts.write_set_laws.write_rises w leg.writes (and_parts _ _ range).1 of_leg.writes.rising;
           few = leb-true _ _ few;
           as_observed = λ i. parts.write_set_laws.write_has w leg.writes i of_leg.writes.rising ∙ ap (λ o. if i == k then Some x else o) (of_leg.writes.as_observed i);
         } in
-        place_sound store limits h observed m s sound p _ (Some _) (write_leg_sound h last limits (observed p) chain before l leg is_open _ (with_at k (Some x) ((observed p).written l)) sound_writes))))
+        place_sound store limits h observed m s sound p _ (Some _) (write_leg_sound h last limits (observed p) chain before l leg is_open _ (with_at k (Some x) ((observed p).legs l).written) sound_writes))))
 
     pub abandon_keeps : (p : ℕ) → Kept (call.Abandon p) (step rules store.depth (call.Abandon p) s)
     abandon_keeps p =
@@ -198,17 +199,18 @@ module _
     -- a true reading that meets the leg's interval answers
     answered_sound :
         (p l k : ℕ) (chain : Chain) (leg : OpenLeg) → s.places p ≡ Some chain → chain.legs l ≡ running leg → (r : Reading) → TrueReading h last k r → meets_reading leg.interval r ≡ true →
-        length chain.readings < limits.readings → (cache : Cache) → AllTrue h last cache → Kept (call.Read p l k) (answered_by rules store.depth p l k chain leg r cache s)
-    answered_sound p l k chain leg here is_open r true_r meets few cache all =
+        length chain.readings < limits.readings → ((observed p).legs l).written k ≡ None → own_reading l k chain.readings ≡ None → (cache : Cache) → AllTrue h last cache →
+        Kept (call.Read p l k) (answered_by rules store.depth p l k chain leg r cache s)
+    answered_sound p l k chain leg here is_open r true_r meets few not_written not_read cache all =
         cache_sound store limits h _ m _
-        (place_sound store limits h observed m s sound p _ (Some _) (read_sound h last limits (observed p) chain (chain_at store limits h observed m s sound p chain here) l k leg is_open r true_r meets few))
+        (place_sound store limits h observed m s sound p _ (Some _) (read_sound h last limits (observed p) chain (chain_at store limits h observed m s sound p chain here) l k leg is_open r true_r meets few not_written not_read))
         leg.worker cache all
 
     -- what the store answers at the high end meets the interval
     store_meets :
-        (k : ℕ) (rs : List LegReading) (written : ℕ → Option ℕ) (leg : OpenLeg) (r : Reading) →
-        LegSound last limits rs written leg → AnsweredAt h last k leg.interval.high r → meets_reading leg.interval r ≡ true
-    store_meets k rs written leg r of_leg a =
+        (k : ℕ) (rs : List LegReading) (observed_here : ObservedLeg) (leg : OpenLeg) (r : Reading) →
+        LegSound last limits rs observed_here leg → AnsweredAt h last k leg.interval.high r → meets_reading leg.interval r ≡ true
+    store_meets k rs observed_here leg r of_leg a =
         and_from _ _ (le-leb _ _ (omega (arith, of_leg.times.some, of_leg.times.from_known, a.as_far))) (le-leb _ _ a.not_later)
 
     pub read_keeps : (p l k : ℕ) → Kept (call.Read p l k) (step rules store.depth (call.Read p l k) s)
@@ -222,25 +224,26 @@ module _
         let cache : Cache = s.caches leg.worker in
         at_else P _ _ _
         (λ x found.
-        let never : (observed p).written l k ≡ None → ⊥ = λ none. let z : Some x ≡ None = sym found ∙ of_leg.writes.as_observed k ∙ none in grind arith in
+        let never : ((observed p).legs l).written k ≡ None → ⊥ = λ none. let z : Some x ≡ None = sym found ∙ of_leg.writes.as_observed k ∙ none in grind arith in
         more_observed store limits h observed m s sound p _ chain here (read_again h last limits (observed p) chain before l k x (λ none. absurd (never none))))
-        (λ _.
+        (λ unwritten.
+        let not_written : ((observed p).legs l).written k ≡ None = sym (of_leg.writes.as_observed k) ∙ unwritten in
         at_else P _ _ _
         (λ r found.
         let own = own_there l k chain.readings r found in
-        more_observed store limits h observed m s sound p _ chain here (read_again h last limits (observed p) chain before l k r.made.reading.value (λ _. record { reading = r; there = own.0; same_key = own.1; same_value = refl })))
-        (λ _.
+        more_observed store limits h observed m s sound p _ chain here (read_again h last limits (observed p) chain before l k r.made.reading.value (λ _. (record { reading = r; there = own.0; same_key = own.1; same_value = refl }, read_where_own l k chain.readings (observed p).outside before.firsts ∙ ap is_some found))))
+        (λ not_read.
         at_check P _ _ _ sound (λ few.
         at_else P _ _ _
         (λ e found.
         let known = parts.cache_laws.answers leg.interval k cache e found in
         let true_e = all-has (λ x. TrueReading h last x.key x.reading) cache e (sound.caches leg.worker) known.0 in
         let true_r : TrueReading h last k e.reading = subst (λ i. TrueReading h last i e.reading) known.1 true_e in
-        answered_sound p l k chain leg here is_open e.reading true_r known.2 (ltb-true _ _ few) _ (added_true cache _ e (parts.cache_laws.used e cache) true_e (sound.caches leg.worker)))
+        answered_sound p l k chain leg here is_open e.reading true_r known.2 (ltb-true _ _ few) not_written not_read _ (added_true cache _ e (parts.cache_laws.used e cache) true_e (sound.caches leg.worker)))
         (λ _.
         at_result P _ _ _ (λ _ _. sound) (λ r answer.
         let a = store_true store.depth store.capacity s.store h sound.stands k leg.interval.high r key answer in
-        answered_sound p l k chain leg here is_open r a.is_true (store_meets k chain.readings ((observed p).written l) leg r of_leg a) (ltb-true _ _ few) _
+        answered_sound p l k chain leg here is_open r a.is_true (store_meets k chain.readings ((observed p).legs l) leg r of_leg a) (ltb-true _ _ few) not_written not_read _
         (added_true cache _ (entry_of k r) (parts.cache_laws.stored leg.interval.high (entry_of k r) cache) a.is_true (sound.caches leg.worker)))))))))
 
     pub deliver_keeps : (i : ℕ) → Kept (call.Deliver i) (step rules store.depth (call.Deliver i) s)

@@ -5,6 +5,7 @@ use mathlib.Core.Path.{fun_ext}
 use Rattle.std.specs.List.{AllByRecursion, list_all}
 use Rattle.std.proofs.ByRecursion.{all-has, All-map, All-weaker}
 use Rattle.std.proofs.lemmas.List.{append-nil, length-map}
+use Rattle.std.proofs.lemmas.Simd.{map-map}
 use Rattle.std.proofs.lemmas.Bool.{and_parts, and_from, cases_eq, eq-eqb, le-leb, lt-ltb, ltb-true}
 use Rattle.std.proofs.lemmas.Bool.Decides.{nat_tests}
 use Rattle.snapshot.specs.Accounts.{Account, sound_reading, greatest_timestamp, least_promise, rising_from, sound_timestamp, few_enough, agreed_ends, lawful}
@@ -15,10 +16,11 @@ use Rattle.snapshot.specs.declared.account.Write.{Write}
 use Rattle.snapshot.specs.declared.interval.Interval.{Interval}
 use Rattle.store.specs.Laws.{versions_of}
 use Rattle.store.specs.Meaning.{Meaning, with_writes, written_to, commit_answer_by}
-use Rattle.store.proofs.Standing.{accepted as commit_accepted, commit_stands}
+use Rattle.store.proofs.Standing.{accepted as commit_accepted, accepted_issued, commit_stands}
 use Rattle.store.proofs.Versions.{before_from_up_to}
 use Rattle.engine_model.specs.Engines.{OpenLeg, LegState, running, is_running, Chain, Engine, with_place}
-use Rattle.engine_model.specs.Traces.{NewStore, ObservedChain, ValueRead}
+use Rattle.engine_model.specs.Traces.{NewStore, ObservedChain, ValueRead, untimed, observed_readings}
+use Rattle.engine_model.specs.Law.{without_times}
 use Rattle.engine_model.specs.Notices.{notice_of}
 use Rattle.engine_model.specs.RuleLaws.{LimitLaws, PartsWithLaws, rules_of}
 use Rattle.engine_model.specs.Rules.{Rules}
@@ -32,7 +34,7 @@ use Rattle.engine_model.proofs.Legs.{open_below, leg_sound, chain_on}
 use Rattle.engine_model.proofs.NoticeProofs.{all_raised_wait, written_each}
 use Rattle.engine_model.proofs.Outcomes.{at_check, at_open_leg, at_result}
 use Rattle.engine_model.proofs.Readings.{History, TrueReading, AllTrue, GoesOn, same_goes_on, true_on, commit_goes_on, commit_true}
-use Rattle.engine_model.proofs.Sound.{LegSound, Covers, ReadingSound, Shown, ChainSound, Sound, Backed, Confirmed}
+use Rattle.engine_model.proofs.Sound.{LegSound, Covers, ReadingSound, Shown, OfLeg, as_read, ChainSound, Sound, Backed, Confirmed}
 use Rattle.engine_model.proofs.Updates.{at_each}
 
 -- what backs a value does so where the history goes on
@@ -47,6 +49,13 @@ backed_on h last h' last' on low high x b =
       from_low = b.from_low;
       to_high = b.to_high;
     }
+
+-- and true readings stay true
+pub true_readings_on :
+    (h : History) (last : ℕ) (h' : History) (last' : ℕ) → GoesOn h last h' last' → (rs : List ChainReading) →
+    AllByRecursion (λ r. TrueReading h last r.key r.reading) rs → AllByRecursion (λ r. TrueReading h' last' r.key r.reading) rs
+true_readings_on h last h' last' on =
+    All-weaker (λ r. TrueReading h last r.key r.reading) (λ r. TrueReading h' last' r.key r.reading) (λ r. true_on h last h' last' on r.key r.reading)
 
 -- The only open leg.
 
@@ -84,13 +93,20 @@ least_above :
 least_above n a [] le each = le
 least_above n a (r ∷ rs) le each = least_above n (min a r.reading.promise) rs (omega (arith, each.0)) each.1
 
+-- Two functions that agree on each element.
+
+map_where :
+    {X Y : Type 0} (P : X → Type 0) (f g : X → Y) → ((x : X) → P x → f x ≡ g x) → (xs : List X) → AllByRecursion P xs → map f xs ≡ map g xs
+map_where P f g same [] each = refl
+map_where P f g same (x ∷ xs) each = ap (λ y. y ∷ map f xs) (same x each.0) ∙ ap (λ ys. g x ∷ ys) (map_where P f g same xs each.1)
+
 -- The account of a chain by its only open leg.
 
 module _
     (h : History) (last : ℕ) (limits : ChainLimits) (limit_laws : LimitLaws limits) (observed : ObservedChain) (chain : Chain) (sound : ChainSound h last limits observed chain)
     (l : ℕ) (leg : OpenLeg) (is_open : chain.legs l ≡ running leg) (only : only_open l chain.legs limit.leg_count ≡ true) (before_end : last < open_end)
   where
-    of_leg : LegSound last limits chain.readings (observed.written l) leg
+    of_leg : LegSound last limits chain.readings (observed.legs l) leg
     of_leg = leg_sound last limits observed chain sound.legs l leg is_open
 
     -- every reading covers the leg's interval
@@ -142,6 +158,21 @@ module _
     -- no promise is above last
     promises_known : AllByRecursion (λ r. r.reading.promise ≤ last) made
     promises_known = All-map (λ r. r.reading.promise ≤ last) (λ (r : LegReading). r.made) chain.readings (All-weaker (ReadingSound h last) (λ r. r.made.reading.promise ≤ last) (λ r s. s.is_true.known) chain.readings sound.readings)
+
+    -- its readings are those that the events show
+    its_readings_lem : without_times made ≡ observed_readings observed
+    its_readings_lem =
+        map-map (λ r. untimed r.worker r.key r.reading.value) (λ (r : LegReading). r.made) chain.readings
+        ∙ map_where (OfLeg chain.opened observed.legs) _ (λ (r : LegReading). untimed (observed.legs r.leg).worker r.made.key r.made.reading.value)
+        (λ r o. ap (λ w. untimed w r.made.key r.made.reading.value) (sym o.same_worker)) chain.readings sound.of_legs
+        ∙ sym (map-map (λ x. untimed (observed.legs x.leg).worker x.key x.value) as_read chain.readings)
+        ∙ ap (map (λ x. untimed (observed.legs x.leg).worker x.key x.value)) sound.firsts
+
+    -- and true
+    true_readings_lem : AllByRecursion (λ r. TrueReading h last r.key r.reading) made
+    true_readings_lem =
+        All-map (λ r. TrueReading h last r.key r.reading) (λ (r : LegReading). r.made) chain.readings
+        (All-weaker (ReadingSound h last) (λ r. TrueReading h last r.made.key r.made.reading) (λ r s. s.is_true) chain.readings sound.readings)
 
     -- every value that was answered outside the writes is backed
     backed : AllByRecursion (Backed h last leg.interval.low leg.interval.high) observed.outside
@@ -220,14 +251,14 @@ module _
         }
 
     -- the account is confirmed, and the history goes on
-    abbrev pub AccountStands : ℕ → ℕ → Account → Engine → Type 0
-    AccountStands p l a s' =
-        Confirmed (with_commit a.timestamp a.writes) s'.store.last h (observed p) l a × GoesOn h s.store.last (with_commit a.timestamp a.writes) s'.store.last
+    abbrev pub AccountStands : ℕ → ℕ → ℕ → Account → Engine → Type 0
+    AccountStands p l clock a s' =
+        Confirmed parts.timestamps (with_commit a.timestamp a.writes) s'.store.last h m.last (observed p) l clock a × GoesOn h s.store.last (with_commit a.timestamp a.writes) s'.store.last
 
     -- sound after it, with its account confirmed
     abbrev pub Committed : (p l clock r w : ℕ) → StepOutcome Account → Type 0
     Committed p l clock r w o =
-        After limits store h observed m s (call.Commit p l clock r w) o × IfAccepted (AccountStands p l) o
+        After limits store h observed m s (call.Commit p l clock r w) o × IfAccepted (AccountStands p l clock) o
 
     module _ (p l clock r w : ℕ) (chain : Chain) (before : ChainSound h s.store.last limits (observed p) chain) where
       -- by the writes of the only open leg
@@ -241,13 +272,17 @@ module _
           let same : h ≡ with_commit 0 [] = fun_ext (λ k. sym (append-nil (h k))) in
           let sound_with : History → Type 0 = λ h'. Sound store limits h' observed m (with_place p None s) in
           let backed_with : History → Type 0 = λ h'. AllByRecursion (Backed h' last i.low i.high) (observed p).outside in
+          let true_with : History → Type 0 = λ h'. AllByRecursion (λ r. TrueReading h' last r.key r.reading) (map (λ r. r.made) chain.readings) in
           let goes_on_with : History → Type 0 = λ h'. GoesOn h last h' last in (
             subst sound_with same (free_sound store limits h observed m s sound p),
             (
               record {
                 some = of_leg.times.some;
                 backed = subst backed_with same (backed h last limits limit_laws (observed p) chain before l leg is_open only sound.before_end);
+                its_readings = its_readings_lem h last limits limit_laws (observed p) chain before l leg is_open only sound.before_end;
+                true_readings = subst true_with same (true_readings_lem h last limits limit_laws (observed p) chain before l leg is_open only sound.before_end);
                 its_writes = of_leg.writes.as_observed;
+                its_timestamp = λ some. absurd (omega arith);
                 after_history = λ some. absurd (omega arith);
                 after_promises = λ some. absurd (omega arith);
                 for_the_book = for_the_book_lem h last limits limit_laws (observed p) chain before l leg is_open only sound.before_end 0 refl;
@@ -275,7 +310,10 @@ module _
               record {
                 some = of_leg.times.some;
                 backed = All-weaker (Backed h last i.low i.high) (Backed h' t i.low i.high) (backed_on h last h' t on i.low i.high) (observed p).outside backed_before;
+                its_readings = its_readings_lem h last limits limit_laws (observed p) chain before l leg is_open only sound.before_end;
+                true_readings = true_readings_on h last h' t on _ (true_readings_lem h last limits limit_laws (observed p) chain before l leg is_open only sound.before_end);
                 its_writes = of_leg.writes.as_observed;
+                its_timestamp = λ _. subst (λ n. parts.timestamps clock n.last ≡ Ok t) sound.same_store (accepted_issued parts.timestamps depth clock ws s.store t answer);
                 after_history = λ _ k key. before_from_up_to last t (h k) a.after_last (sound.stands.of_keys k key).up_to_last;
                 after_promises = λ _. later;
                 for_the_book = for_the_book_lem h last limits limit_laws (observed p) chain before l leg is_open only sound.before_end t time;

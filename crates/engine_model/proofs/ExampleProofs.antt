@@ -35,9 +35,9 @@ not_five_at_thirty (v, held, five) =
 commit_last :
     (rules : Rules) (store : NewStore) (trace before : Trace) → TraceLaw rules store trace →
     (p l clock r w : ℕ) (a : Account) → trace ≡ event (call.Commit p l clock r w) (Ok a) ∷ before →
-    AccountLaw (history_of trace) before p l a
+    AccountLaw rules store (history_of trace) before p l clock a
 commit_last rules store trace before law p l clock r w a e =
-    let R : Event → Trace → Type 0 = λ it past. (p l clock r w : ℕ) (a : Account) → it ≡ event (call.Commit p l clock r w) (Ok a) → AccountLaw (history_of trace) past p l a in
+    let R : Event → Trace → Type 0 = λ it past. (p l clock r w : ℕ) (a : Account) → it ≡ event (call.Commit p l clock r w) (Ok a) → AccountLaw rules store (history_of trace) past p l clock a in
     (subst (AtEach R) e law.commits).0 p l clock r w a refl
 
 gone_last :
@@ -58,7 +58,7 @@ unfolding check with_chain with_open with_open_leg if_free with_result or_else v
 committed_trace = refl
 
 -- what the law says of that commit
-break_in_law : AccountLaw (history_of (trace_of the_rules table break_in)) (trace_of the_rules table read_then_pruned) 0 3 break_in_account
+break_in_law : AccountLaw the_rules table (history_of (trace_of the_rules table break_in)) (trace_of the_rules table read_then_pruned) 0 3 40 break_in_account
 break_in_law = commit_last the_rules table _ _ (the_rules_lawful.by_calls table break_in) 0 3 40 32 8 break_in_account committed_trace
 
 -- the notice of the zone since time 30 still waits
@@ -85,12 +85,12 @@ gone_law :
 gone_law = gone_last the_rules table _ _ (the_rules_lawful.by_calls table (pruned ++ (call.Read 0 3 7 ∷ []))) 0 3 7 (around_store (query_fault VersionGone 7) 0 3 7) refl refused_trace
 
 -- what the chain read outside its own writes, the latest first
-outside_reads : (observed_of (trace_of the_rules table read_then_pruned) 0).outside ≡ value_read 7 5 ∷ value_read 9 3 ∷ value_read 7 5 ∷ []
+outside_reads : (observed_of (trace_of the_rules table read_then_pruned) 0).outside ≡ value_read 3 7 5 ∷ value_read 2 9 3 ∷ value_read 1 7 5 ∷ []
 unfolding check with_chain with_open with_open_leg if_free with_result or_else versions_below
 outside_reads = refl
 
 -- at time 20 the history holds each of those values
-at_twenty : AllByRecursion (λ r. ValueAt 20 r.value (history_of (trace_of the_rules table break_in) r.key)) (value_read 7 5 ∷ value_read 9 3 ∷ value_read 7 5 ∷ [])
+at_twenty : AllByRecursion (λ r. ValueAt 20 r.value (history_of (trace_of the_rules table break_in) r.key)) (value_read 3 7 5 ∷ value_read 2 9 3 ∷ value_read 1 7 5 ∷ [])
 at_twenty =
     let Held : List ValueRead → Type 0 = λ rs. AllByRecursion (λ r. ValueAt 20 r.value (history_of (trace_of the_rules table break_in) r.key)) rs in
     subst Held outside_reads (break_in_law.agrees 20 (omega arith, omega arith))

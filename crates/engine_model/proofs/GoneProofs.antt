@@ -17,7 +17,7 @@ use Rattle.engine_model.specs.Law.{GoneLaw, leg_in, leg_at}
 use Rattle.engine_model.specs.Traces.{NewStore, ObservedChain}
 use Rattle.engine_model.specs.RuleLaws.{PartsWithLaws, rules_of}
 use Rattle.engine_model.specs.Rules.{Rules}
-use Rattle.engine_model.specs.Steps.{StepOutcome, refused, answer_in, step}
+use Rattle.engine_model.specs.Steps.{StepOutcome, answer_in, step}
 use Rattle.engine_model.specs.declared.calls.Call.TheVariants as call
 use Rattle.engine_model.proofs.Outcomes.{IfRefused, if_refused, at_check, at_open_leg, at_result, at_else}
 use Rattle.engine_model.proofs.Readings.{History}

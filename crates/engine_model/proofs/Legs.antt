@@ -1,5 +1,5 @@
 -- What a call does to the chain that it names keeps the chain sound.
-use Rattle.std.proofs.Common.{◌≡◌, ℕ, ◌<◌, ◌≤◌, min, max, true, ◌⊎◌, List, [], ◌∷◌, ◌++◌, map, length, Some, None, Option, refl, ap, ◌∙◌, subst, inl, inr, ⊎_elim, arith}
+use Rattle.std.proofs.Common.{◌≡◌, ℕ, ◌<◌, ◌≤◌, min, max, true, ◌⊎◌, List, [], ◌∷◌, ◌++◌, map, length, Some, None, Option, sym, refl, ap, ◌∙◌, subst, inl, inr, ⊎_elim, arith}
 use Rattle.std.specs.List.{AllByRecursion}
 use Rattle.std.proofs.ByRecursion.{All-push, All-weaker, has_append_left, has_push}
 use Rattle.std.proofs.lemmas.List.{length_push, map_push}
@@ -13,11 +13,13 @@ use Rattle.snapshot.specs.declared.interval.Interval.{Interval}
 use Rattle.snapshot.specs.Limits.{open_end, is_worker}
 use Rattle.snapshot.specs.Limits as limit
 use Rattle.engine_model.specs.Engines.{OpenLeg, LegState, unused, running, ended, on_worker, with_write_set, with_interval, Chain, with_leg, end_leg, open_leg, add_reading, no_legs, new_chain}
-use Rattle.engine_model.specs.Traces.{ObservedChain, ValueRead, value_read, nothing_observed, leg_wrote, outside_with, leg_read}
+use Rattle.engine_model.specs.Steps.{own_reading}
+use Rattle.engine_model.specs.Traces.{ObservedLeg, observed_leg, ObservedChain, ValueRead, value_read, nothing_observed, leg_opened, leg_wrote, outside_with, leg_read, has_read}
 use Rattle.engine_model.specs.declared.limits.ChainLimits.{ChainLimits}
 use Rattle.engine_model.specs.declared.records.LegReading.{LegReading}
+use Rattle.engine_model.proofs.FirstReads.{firsts_again, firsts_more}
 use Rattle.engine_model.proofs.Readings.{History, TrueReading, GoesOn, true_on}
-use Rattle.engine_model.proofs.Sound.{TimesSound, WritesSound, LegSound, LegsSound, IfRunning, Covers, ReadingSound, Shown, ChainSound}
+use Rattle.engine_model.proofs.Sound.{TimesSound, WritesSound, LegSound, LegsSound, IfRunning, Covers, ReadingSound, Shown, OfLeg, ChainSound}
 use Rattle.engine_model.proofs.Updates.{at_same, at_other, at_each, at_each_two}
 
 -- Open legs.
@@ -82,40 +84,40 @@ module _ (last : ℕ) (limits : ChainLimits) (observed : ObservedChain) (c : Cha
   open_below l leg e =
       ⊎_elim (λ lt. lt) (λ past. absurd (not_unused (c.legs l) leg e (legs.unopened l past))) (cases_lt l c.opened)
 
-  pub leg_sound : (l : ℕ) (leg : OpenLeg) → c.legs l ≡ running leg → LegSound last limits c.readings (observed.written l) leg
-  leg_sound l leg e = if_running (LegSound last limits c.readings (observed.written l)) (c.legs l) leg e (legs.each l)
+  pub leg_sound : (l : ℕ) (leg : OpenLeg) → c.legs l ≡ running leg → LegSound last limits c.readings (observed.legs l) leg
+  leg_sound l leg e = if_running (LegSound last limits c.readings (observed.legs l)) (c.legs l) leg e (legs.each l)
 
   -- a leg becomes another, or ends
   pub set_sound :
-      (l : ℕ) (state : LegState) → l < c.opened → IfRunning (LegSound last limits c.readings (observed.written l)) state →
+      (l : ℕ) (state : LegState) → l < c.opened → IfRunning (LegSound last limits c.readings (observed.legs l)) state →
       LegsSound last limits observed (with_leg l state c)
   set_sound l state lt s =
       record {
         few_legs = legs.few_legs;
         unopened = λ j le. at_other l state c.legs j (omega arith) ∙ legs.unopened j le;
-        each = at_each (λ j. IfRunning (LegSound last limits c.readings (observed.written j))) l state c.legs s legs.each;
+        each = at_each (λ j. IfRunning (LegSound last limits c.readings (observed.legs j))) l state c.legs s legs.each;
       }
 
   -- a leg becomes another, with other writes
   pub write_sound :
-      (l : ℕ) (leg : OpenLeg) (ws : ℕ → Option ℕ) → l < c.opened → LegSound last limits c.readings ws leg →
-      LegsSound last limits (leg_wrote l ws observed) (with_leg l (running leg) c)
-  write_sound l leg ws lt s =
+      (l : ℕ) (leg : OpenLeg) (w : ℕ) (ws : ℕ → Option ℕ) → l < c.opened → LegSound last limits c.readings (observed_leg w ws) leg →
+      LegsSound last limits (leg_opened l w ws observed) (with_leg l (running leg) c)
+  write_sound l leg w ws lt s =
       record {
         few_legs = legs.few_legs;
         unopened = λ j le. at_other l (running leg) c.legs j (omega arith) ∙ legs.unopened j le;
-        each = at_each_two (λ j ws. IfRunning (LegSound last limits c.readings ws)) l ws observed.written (running leg) c.legs s legs.each;
+        each = at_each_two (λ j o. IfRunning (LegSound last limits c.readings o)) l (observed_leg w ws) observed.legs (running leg) c.legs s legs.each;
       }
 
   -- the next leg is opened
   pub open_sound :
-      (leg : OpenLeg) (ws : ℕ → Option ℕ) → c.opened < limit.leg_count → LegSound last limits c.readings ws leg →
-      LegsSound last limits (leg_wrote c.opened ws observed) (open_leg leg c)
-  open_sound leg ws room s =
+      (leg : OpenLeg) (w : ℕ) (ws : ℕ → Option ℕ) → c.opened < limit.leg_count → LegSound last limits c.readings (observed_leg w ws) leg →
+      LegsSound last limits (leg_opened c.opened w ws observed) (open_leg leg c)
+  open_sound leg w ws room s =
       record {
         few_legs = room;
         unopened = λ j le. at_other c.opened (running leg) c.legs j (omega arith) ∙ legs.unopened j (omega arith);
-        each = at_each_two (λ j ws. IfRunning (LegSound last limits c.readings ws)) c.opened ws observed.written (running leg) c.legs s legs.each;
+        each = at_each_two (λ j o. IfRunning (LegSound last limits c.readings o)) c.opened (observed_leg w ws) observed.legs (running leg) c.legs s legs.each;
       }
 
   pub end_sound : (l : ℕ) → l < c.opened → LegsSound last limits observed (end_leg l c)
@@ -123,18 +125,43 @@ module _ (last : ℕ) (limits : ChainLimits) (observed : ObservedChain) (c : Cha
 
 -- Chains.
 
+-- the workers of the legs below a number stay
+abbrev SameWorkers : ℕ → (ℕ → ObservedLeg) → (ℕ → ObservedLeg) → Type 0
+SameWorkers opened legs legs' = (j : ℕ) → j < opened → (legs' j).worker ≡ (legs j).worker
+
+-- where more legs are opened, and where one has other writes
+opened_workers :
+    (observed : ObservedChain) (n w : ℕ) (ws : ℕ → Option ℕ) → SameWorkers n observed.legs (leg_opened n w ws observed).legs
+opened_workers observed n w ws j lt = ap (λ x. x.worker) (at_other n (observed_leg w ws) observed.legs j (omega arith))
+
+written_workers :
+    (observed : ObservedChain) (n l : ℕ) (ws : ℕ → Option ℕ) → SameWorkers n observed.legs (leg_wrote l ws observed).legs
+written_workers observed n l ws j lt =
+    at_each (λ j x. x.worker ≡ (observed.legs j).worker) l (observed_leg (observed.legs l).worker ws) observed.legs refl (λ j. refl) j
+
+-- then each reading is still of the leg that made it
+of_legs_on :
+    (n m : ℕ) (legs legs' : ℕ → ObservedLeg) → n ≤ m → SameWorkers n legs legs' → (rs : List LegReading) →
+    AllByRecursion (OfLeg n legs) rs → AllByRecursion (OfLeg m legs') rs
+of_legs_on n m legs legs' le same rs =
+    All-weaker (OfLeg n legs) (OfLeg m legs')
+    (λ r o. record { was_opened = omega (arith, o.was_opened); same_worker = same r.leg o.was_opened ∙ o.same_worker }) rs
+
 module _ (h : History) (last : ℕ) (limits : ChainLimits) (observed : ObservedChain) (c : Chain) (sound : ChainSound h last limits observed c) where
   -- the same readings, with other legs in which the open ones go on
   other_legs :
       (observed' : ObservedChain) (c' : Chain) → LegsSound last limits observed' c' → c'.readings ≡ c.readings →
-      observed'.outside ≡ observed.outside → AllGoOn c.legs c'.legs → ChainSound h last limits observed' c'
-  other_legs observed' c' legs same outside on =
+      observed'.outside ≡ observed.outside → c.opened ≤ c'.opened → SameWorkers c.opened observed.legs observed'.legs →
+      AllGoOn c.legs c'.legs → ChainSound h last limits observed' c'
+  other_legs observed' c' legs same outside more workers on =
       record {
         legs = legs;
         few_readings = rw same sound.few_readings;
         readings = rw same sound.readings;
         covered = rw same (all_covered c.legs c'.legs on c.readings sound.covered);
         shown = rw (same, outside) sound.shown;
+        firsts = rw (same, outside) sound.firsts;
+        of_legs = rw same (of_legs_on c.opened c'.opened observed.legs observed'.legs more workers c.readings sound.of_legs);
       }
 
   -- the next leg is opened in the place of some that end: each open leg either stays, or is no narrower than the new one
@@ -162,21 +189,21 @@ module _ (h : History) (last : ℕ) (limits : ChainLimits) (observed : ObservedC
 
   -- a further leg is opened
   pub also_open :
-      (leg : OpenLeg) (ws : ℕ → Option ℕ) → c.opened < limit.leg_count → LegSound last limits c.readings ws leg →
-      ChainSound h last limits (leg_wrote c.opened ws observed) (open_leg leg c)
-  also_open leg ws room s =
-      other_legs _ _ (open_sound last limits observed c sound.legs leg ws room s) refl refl (replaced_on c leg refl (λ j other e. inl e))
+      (leg : OpenLeg) (w : ℕ) (ws : ℕ → Option ℕ) → c.opened < limit.leg_count → LegSound last limits c.readings (observed_leg w ws) leg →
+      ChainSound h last limits (leg_opened c.opened w ws observed) (open_leg leg c)
+  also_open leg w ws room s =
+      other_legs _ _ (open_sound last limits observed c sound.legs leg w ws room s) refl refl (omega arith) (opened_workers observed c.opened w ws) (replaced_on c leg refl (λ j other e. inl e))
 
   module _ (l : ℕ) (leg : OpenLeg) (is_open : c.legs l ≡ running leg) where
     below : l < c.opened
     below = open_below last limits observed c sound.legs l leg is_open
 
-    here : LegSound last limits c.readings (observed.written l) leg
+    here : LegSound last limits c.readings (observed.legs l) leg
     here = leg_sound last limits observed c sound.legs l leg is_open
 
-    pub on_worker_lem : (w : ℕ) → is_worker w ≡ true → LegSound last limits c.readings (observed.written l) (on_worker w leg)
+    pub on_worker_lem : (w : ℕ) → is_worker w ≡ true → LegSound last limits c.readings (observed_leg w (observed.legs l).written) (on_worker w leg)
     on_worker_lem w worker =
-        record { worker = worker; times = here.times; writes = here.writes }
+        record { worker = worker; same_worker = refl; times = here.times; writes = here.writes }
 
     -- another leg takes its place
     set_on : (new : OpenLeg) → NoWider leg new → AllGoOn c.legs (with_leg l (running new) c).legs
@@ -202,7 +229,7 @@ module _ (h : History) (last : ℕ) (limits : ChainLimits) (observed : ObservedC
     -- A leg is handed on to another worker.
     pub hand_sound :
         (w : ℕ) → is_worker w ≡ true → c.opened < limit.leg_count →
-        ChainSound h last limits (leg_wrote c.opened (observed.written l) observed) (open_leg (on_worker w leg) (end_leg l c))
+        ChainSound h last limits (leg_opened c.opened w (observed.legs l).written observed) (open_leg (on_worker w leg) (end_leg l c))
     hand_sound w worker room =
         let ended_legs = end_sound last limits observed c sound.legs l below in
         let stays : (j : ℕ) (other : OpenLeg) → c.legs j ≡ running other → ((end_leg l c).legs j ≡ running other) ⊎ NoWider other (on_worker w leg) = λ j other e.
@@ -210,15 +237,16 @@ module _ (h : History) (last : ℕ) (limits : ChainLimits) (observed : ObservedC
         (λ same. let one = same_width leg other (one_leg c.legs j l other leg same e is_open) in inr (record { low = one.low; high = one.high }))
         (λ apart. inl (at_other l ended c.legs j apart ∙ e))
         (cases_eq j l) in
-        other_legs _ _ (open_sound last limits observed (end_leg l c) ended_legs (on_worker w leg) (observed.written l) room (on_worker_lem w worker)) refl refl (replaced_on (end_leg l c) (on_worker w leg) refl stays)
+        other_legs _ _ (open_sound last limits observed (end_leg l c) ended_legs (on_worker w leg) w (observed.legs l).written room (on_worker_lem w worker)) refl refl (omega arith) (opened_workers observed c.opened w (observed.legs l).written) (replaced_on (end_leg l c) (on_worker w leg) refl stays)
 
     -- A leg writes.
     pub write_leg_sound :
         (ws : List Write) (written : ℕ → Option ℕ) → WritesSound limits written ws →
         ChainSound h last limits (leg_wrote l written observed) (with_leg l (running (with_write_set ws leg)) c)
     write_leg_sound ws written sound_writes =
-        let new : LegSound last limits c.readings written (with_write_set ws leg) = record { worker = here.worker; times = here.times; writes = sound_writes } in
-        other_legs _ _ (write_sound last limits observed c sound.legs l (with_write_set ws leg) written below new) refl refl (set_on (with_write_set ws leg) (record { low = omega arith; high = omega arith }))
+        let w : ℕ = (observed.legs l).worker in
+        let new : LegSound last limits c.readings (observed_leg w written) (with_write_set ws leg) = record { worker = here.worker; same_worker = here.same_worker; times = here.times; writes = sound_writes } in
+        other_legs _ _ (write_sound last limits observed c sound.legs l (with_write_set ws leg) w written below new) refl refl (omega arith) (written_workers observed c.opened l written) (set_on (with_write_set ws leg) (record { low = omega arith; high = omega arith }))
 
     -- Two legs are joined.
     module _ (m : ℕ) (other : OpenLeg) (other_open : c.legs m ≡ running other) (new : OpenLeg) (first : NoWider leg new) (second : NoWider other new) where
@@ -236,12 +264,12 @@ module _ (h : History) (last : ℕ) (limits : ChainLimits) (observed : ObservedC
           (cases_eq j l)
 
       pub join_sound :
-          (written : ℕ → Option ℕ) → c.opened < limit.leg_count → LegSound last limits c.readings written new →
-          ChainSound h last limits (leg_wrote c.opened written observed) (open_leg new (end_leg m (end_leg l c)))
-      join_sound written room sound_new =
+          (w : ℕ) (written : ℕ → Option ℕ) → c.opened < limit.leg_count → LegSound last limits c.readings (observed_leg w written) new →
+          ChainSound h last limits (leg_opened c.opened w written observed) (open_leg new (end_leg m (end_leg l c)))
+      join_sound w written room sound_new =
           let below_too : m < c.opened = open_below last limits observed c sound.legs m other other_open in
           let ended_legs = end_sound last limits observed (end_leg l c) (end_sound last limits observed c sound.legs l below) m below_too in
-          other_legs _ _ (open_sound last limits observed (end_leg m (end_leg l c)) ended_legs new written room sound_new) refl refl (replaced_on (end_leg m (end_leg l c)) new refl join_stays)
+          other_legs _ _ (open_sound last limits observed (end_leg m (end_leg l c)) ended_legs new w written room sound_new) refl refl (omega arith) (opened_workers observed c.opened w written) (replaced_on (end_leg m (end_leg l c)) new refl join_stays)
 
 -- A leg reads.
 
@@ -259,9 +287,9 @@ least_push rs r =
 
 -- a further reading of the chain leaves its legs sound
 leg_more :
-    (last : ℕ) (limits : ChainLimits) (rs : List LegReading) (r : LegReading) (written : ℕ → Option ℕ) (leg : OpenLeg) →
-    LegSound last limits rs written leg → LegSound last limits (rs ++ (r ∷ [])) written leg
-leg_more last limits rs r written leg s =
+    (last : ℕ) (limits : ChainLimits) (rs : List LegReading) (r : LegReading) (observed : ObservedLeg) (leg : OpenLeg) →
+    LegSound last limits rs observed leg → LegSound last limits (rs ++ (r ∷ [])) observed leg
+leg_more last limits rs r observed leg s =
     let before = s.times in
     let times : TimesSound last (rs ++ (r ∷ [])) leg.interval = record {
       some = before.some;
@@ -270,7 +298,7 @@ leg_more last limits rs r written leg s =
       low_read = omega (arith, greatest_push rs r, before.low_read);
       high_read = omega (arith, least_push rs r, before.high_read);
     } in
-    record { worker = s.worker; times = times; writes = s.writes }
+    record { worker = s.worker; same_worker = s.same_worker; times = times; writes = s.writes }
 
 -- the interval of the leg that made it is narrowed by it
 times_narrowed :
@@ -300,7 +328,7 @@ shown_more rs r xs =
       same_value = s.same_value;
     }) xs
 
--- what is told of a read: where the leg has written the key nothing, else one more value that was answered
+-- a read adds a value that was answered outside the chain's writes, if the leg has not written the key
 shown_with :
     (P : ValueRead → Type 0) (written : Option ℕ) (x : ValueRead) (xs : List ValueRead) → (written ≡ None → P x) →
     AllByRecursion P xs → AllByRecursion P (outside_with written x xs)
@@ -310,18 +338,21 @@ shown_with P (Some v) x xs new old = old
 module _ (h : History) (last : ℕ) (limits : ChainLimits) (observed : ObservedChain) (c : Chain) (sound : ChainSound h last limits observed c) (l k : ℕ) where
   -- a read that adds no reading
   pub read_again :
-      (x : ℕ) → (observed.written l k ≡ None → Shown c.readings (value_read k x)) → ChainSound h last limits (leg_read l k x observed) c
-  read_again x shown =
+      (x : ℕ) → ((observed.legs l).written k ≡ None → Shown c.readings (value_read l k x) × (has_read l k observed.outside ≡ true)) →
+      ChainSound h last limits (leg_read l k x observed) c
+  read_again x again =
       record {
         legs = record { few_legs = sound.legs.few_legs; unopened = sound.legs.unopened; each = sound.legs.each };
         few_readings = sound.few_readings;
         readings = sound.readings;
         covered = sound.covered;
-        shown = shown_with (Shown c.readings) (observed.written l k) (value_read k x) observed.outside shown sound.shown;
+        shown = shown_with (Shown c.readings) ((observed.legs l).written k) (value_read l k x) observed.outside (λ none. (again none).0) sound.shown;
+        firsts = sound.firsts ∙ sym (firsts_again ((observed.legs l).written k) l k x observed.outside (λ none. (again none).1));
+        of_legs = sound.of_legs;
       }
 
   -- a read that adds one
-  module _ (leg : OpenLeg) (is_open : c.legs l ≡ running leg) (r : Reading) (true_r : TrueReading h last k r) (meets : meets_reading leg.interval r ≡ true) (room : length c.readings < limits.readings) where
+  module _ (leg : OpenLeg) (is_open : c.legs l ≡ running leg) (r : Reading) (true_r : TrueReading h last k r) (meets : meets_reading leg.interval r ≡ true) (room : length c.readings < limits.readings) (not_written : (observed.legs l).written k ≡ None) (not_read : own_reading l k c.readings ≡ None) where
     abbrev noted : LegReading
     noted = record { leg = l; made = record { worker = leg.worker; key = k; reading = r } }
 
@@ -339,50 +370,50 @@ module _ (h : History) (last : ℕ) (limits : ChainLimits) (observed : ObservedC
           legs = record {
             few_legs = sound.legs.few_legs;
             unopened = λ j le. at_other l (running after) c.legs j (omega arith) ∙ sound.legs.unopened j le;
-            each = at_each (λ j. IfRunning (LegSound last limits rs (observed.written j))) l (running after) c.legs
-                (record { worker = before.worker; times = times_narrowed h last c.readings noted leg.interval true_r meets before.times; writes = before.writes })
-                (λ j. if_weaker (LegSound last limits c.readings (observed.written j)) (LegSound last limits rs (observed.written j)) (leg_more last limits c.readings noted (observed.written j)) (c.legs j) (sound.legs.each j));
+            each = at_each (λ j. IfRunning (LegSound last limits rs (observed.legs j))) l (running after) c.legs
+                (record { worker = before.worker; same_worker = before.same_worker; times = times_narrowed h last c.readings noted leg.interval true_r meets before.times; writes = before.writes })
+                (λ j. if_weaker (LegSound last limits c.readings (observed.legs j)) (LegSound last limits rs (observed.legs j)) (leg_more last limits c.readings noted (observed.legs j)) (c.legs j) (sound.legs.each j));
           };
           few_readings = omega (arith, length_push c.readings noted);
           readings = All-push (ReadingSound h last) c.readings noted sound.readings (record { worker = before.worker; is_true = true_r });
           covered = All-push (Covers (with_leg l (running after) c).legs) c.readings noted
               (all_covered c.legs (with_leg l (running after) c).legs on c.readings sound.covered)
               (record { number = l; leg = after; is_open = at_same l (running after) c.legs; from_low = omega arith; to_high = omega arith });
-          shown = shown_with (Shown rs) (observed.written l k) (value_read k r.value) observed.outside
+          shown = shown_with (Shown rs) ((observed.legs l).written k) (value_read l k r.value) observed.outside
               (λ _. record { reading = noted; there = has_push c.readings noted; same_key = refl; same_value = refl })
               (shown_more c.readings noted observed.outside sound.shown);
+          firsts = firsts_more c.readings noted ((observed.legs l).written k) observed.outside sound.firsts not_written not_read;
+          of_legs = All-push (OfLeg c.opened observed.legs) c.readings noted sound.of_legs (record { was_opened = lt; same_worker = before.same_worker });
         }
 
 -- A chain is begun.
 
 pub begin_sound :
     (h : History) (last : ℕ) (limits : ChainLimits) (w : ℕ) → is_worker w ≡ true →
-    ChainSound h last limits nothing_observed (new_chain w)
+    ChainSound h last limits (leg_opened 0 w (λ k. None) nothing_observed) (new_chain w)
 begin_sound h last limits w worker =
     let all_times : TimesSound last [] (from_to 0 open_end) = record { some = omega arith; to_open_end = omega arith; from_known = omega arith; low_read = omega arith; high_read = omega arith } in
     let no_writes : WritesSound limits (λ k. None) [] = record { rising = refl; few = omega arith; as_observed = λ k. refl } in
-    let first : LegSound last limits [] (λ k. None) (record { worker = w; interval = from_to 0 open_end; writes = [] }) = record { worker = worker; times = all_times; writes = no_writes } in
+    let first : LegSound last limits [] (observed_leg w (λ k. None)) (record { worker = w; interval = from_to 0 open_end; writes = [] }) = record { worker = worker; same_worker = refl; times = all_times; writes = no_writes } in
     let none : LegsSound last limits nothing_observed no_legs = record { few_legs = omega arith; unopened = λ l _. refl; each = λ l. tt } in
-    let opened = open_sound last limits nothing_observed no_legs none (record { worker = w; interval = from_to 0 open_end; writes = [] }) (λ k. None) (omega arith) first in
+    let opened = open_sound last limits nothing_observed no_legs none (record { worker = w; interval = from_to 0 open_end; writes = [] }) w (λ k. None) (omega arith) first in
     record {
-      legs = record {
-        few_legs = opened.few_legs;
-        unopened = opened.unopened;
-        each = at_each (λ l. IfRunning (LegSound last limits [] (λ k. None))) 0 _ (λ l. unused) first (λ l. tt);
-      };
+      legs = record { few_legs = opened.few_legs; unopened = opened.unopened; each = opened.each };
       few_readings = omega arith;
       readings = tt;
       covered = tt;
       shown = tt;
+      firsts = refl;
+      of_legs = tt;
     }
 
 -- The history goes on.
 
 -- last grows
 leg_on :
-    (last last' : ℕ) (limits : ChainLimits) (rs : List LegReading) (written : ℕ → Option ℕ) → last ≤ last' → (leg : OpenLeg) →
-    LegSound last limits rs written leg → LegSound last' limits rs written leg
-leg_on last last' limits rs written le leg s =
+    (last last' : ℕ) (limits : ChainLimits) (rs : List LegReading) (observed : ObservedLeg) → last ≤ last' → (leg : OpenLeg) →
+    LegSound last limits rs observed leg → LegSound last' limits rs observed leg
+leg_on last last' limits rs observed le leg s =
     let before = s.times in
     let times : TimesSound last' rs leg.interval = record {
       some = before.some;
@@ -391,7 +422,7 @@ leg_on last last' limits rs written le leg s =
       low_read = before.low_read;
       high_read = before.high_read;
     } in
-    record { worker = s.worker; times = times; writes = s.writes }
+    record { worker = s.worker; same_worker = s.same_worker; times = times; writes = s.writes }
 
 -- a sound chain stays so where the history goes on
 pub chain_on :
@@ -402,10 +433,12 @@ chain_on h last h' last' on limits observed c sound =
       legs = record {
         few_legs = sound.legs.few_legs;
         unopened = sound.legs.unopened;
-        each = λ l. if_weaker _ _ (leg_on last last' limits c.readings (observed.written l) on.later) (c.legs l) (sound.legs.each l);
+        each = λ l. if_weaker _ _ (leg_on last last' limits c.readings (observed.legs l) on.later) (c.legs l) (sound.legs.each l);
       };
       few_readings = sound.few_readings;
       readings = All-weaker (ReadingSound h last) (ReadingSound h' last') (λ r s. record { worker = s.worker; is_true = true_on h last h' last' on r.made.key r.made.reading s.is_true }) c.readings sound.readings;
       covered = sound.covered;
       shown = sound.shown;
+      firsts = sound.firsts;
+      of_legs = sound.of_legs;
     }

@@ -6,6 +6,7 @@ pub mod Readings
 pub mod Outcomes
 pub mod ShapedTraces
 pub mod Sound
+pub mod FirstReads
 pub mod Legs
 pub mod NoticeProofs
 pub mod Changes

@@ -75,7 +75,7 @@ module _
         (λ r _. tt)))))))
 
     handed_refusal :
-        (p l clock : ℕ) (chain : Chain) (leg : OpenLeg) (ws : List Write) → WritesSound the_limits ((observed p).written l) ws →
+        (p l clock : ℕ) (chain : Chain) (leg : OpenLeg) (ws : List Write) → WritesSound the_limits ((observed p).legs l).written ws →
         IfRefused (Inside (λ inner. CommitRefusal inner.refusal)) (handed_to_store the_rules store.depth p l clock chain leg ws s)
     handed_refusal p l clock chain leg [] writes = tt
     handed_refusal p l clock chain leg (x ∷ xs) writes =
@@ -83,7 +83,7 @@ module _
         let ws : List Write = x ∷ xs in
         at_result (IfRefused (Inside D)) _ _ _
         (λ fault answer inner e.
-        let fit = sound_fit ((observed p).written l) ws (omega arith) writes in
+        let fit = sound_fit ((observed p).legs l).written ws (omega arith) writes in
         let by : D fault = room_refusal store.depth ws s.store (timestamp_for clock ws s.store.last) fault (λ g. fit_refusal clock ws s.store.last g fit) answer in
         let same : fault ≡ inner = cc in
         subst D same by)

@@ -1,16 +1,17 @@
 -- Every trace keeps the law: the invariant of a trace is kept by every call, and the law follows from it.
-use Rattle.std.proofs.Common.{◌≡◌, ℕ, ◌≤◌, List, [], ◌∷◌, IfSome, Some, None, Ok, Err, Option, Result, sym, refl, ap, ◌∙◌, subst, subst₂, arith}
+use Rattle.std.proofs.Common.{◌≡◌, ℕ, ◌+◌, ◌≤◌, max, List, [], ◌∷◌, IfSome, Some, None, Ok, Err, Option, Result, sym, refl, ap, ◌∙◌, subst, subst₂, arith}
 use Rattle.std.specs.List.{AllByRecursion}
 use Rattle.std.proofs.ByRecursion.{All-weaker}
+use Rattle.std.proofs.lemmas.Bool.Decides.{nat_tests}
 use Rattle.snapshot.specs.Accounts.{Account}
 use Rattle.snapshot.specs.declared.fault.EngineFault.{EngineFault}
 use Rattle.snapshot.specs.declared.fault.Refusal.TheVariants.{VersionGone}
 use Rattle.store.specs.Laws.{version_read}
-use Rattle.store.specs.Meaning.{Meaning, issued}
+use Rattle.store.specs.Meaning.{Meaning, Issuing, issued}
 use Rattle.store.proofs.Standing.{new_stands, issued_laws}
 use Rattle.engine_model.specs.Engines.{OpenLeg, running, Chain, Engine}
-use Rattle.engine_model.specs.Law.{ValueAt, AccountLaw, GoneLaw, leg_in, leg_at, TraceLaw, LedTo, KeepTraceLaw, RestsOnLaws}
-use Rattle.engine_model.specs.Traces.{Event, event, Trace, AtEach, NewStore, ByRules, engine_after, trace_from, trace_of, history_by, history_with, history_of, store_by, store_with, store_after, ObservedChain, observed_with, observed_of}
+use Rattle.engine_model.specs.Law.{ValueAt, TrueOf, AccountLaw, GoneLaw, leg_in, leg_at, TraceLaw, LedTo, KeepTraceLaw, RestsOnLaws, TimestampsInEveryTrace}
+use Rattle.engine_model.specs.Traces.{Event, event, Trace, AtEach, NewStore, ByRules, engine_after, trace_from, trace_of, history_by, history_with, history_of, store_by, store_with, store_after, ObservedChain, ValueRead, observed_with, observed_of}
 use Rattle.engine_model.specs.RuleLaws.{PartsWithLaws, rules_of}
 use Rattle.engine_model.specs.Rules.{Rules, the_rules, the_caches, the_write_sets, the_limits}
 use Rattle.engine_model.specs.Steps.{AnswerTo, StepOutcome, refused, accepted, answer_in, engine_in, step}
@@ -19,10 +20,10 @@ use Rattle.engine_model.specs.declared.calls.Call.TheVariants as call
 use Rattle.engine_model.specs.declared.limits.ChainLimits.{ChainLimits}
 use Rattle.engine_model.proofs.CacheProofs.{the_caches_lawful}
 use Rattle.engine_model.proofs.CallProofs.{After, begin_keeps, hand_keeps, fork_keeps, join_keeps, read_keeps, write_keeps, abandon_keeps, deliver_keeps, discard_keeps, prune_keeps}
-use Rattle.engine_model.proofs.CommitProofs.{backed_on, IfAccepted, AccountStands, commit_keeps}
+use Rattle.engine_model.proofs.CommitProofs.{backed_on, true_readings_on, IfAccepted, AccountStands, commit_keeps}
 use Rattle.engine_model.proofs.GoneProofs.{read_gone}
 use Rattle.engine_model.proofs.Legs.{leg_sound}
-use Rattle.engine_model.proofs.Readings.{History, GoesOn, same_goes_on}
+use Rattle.engine_model.proofs.Readings.{History, TrueReading, GoesOn, same_goes_on}
 use Rattle.engine_model.proofs.Sound.{ChainSound, Sound, Backed, Confirmed, TraceSound}
 use Rattle.engine_model.proofs.WriteSetProofs.{the_write_sets_lawful, the_limits_lawful}
 
@@ -36,13 +37,16 @@ at_each_weaker P Q on (e ∷ before) h = (on e before h.0, at_each_weaker P Q on
 
 -- an account stays confirmed where the history goes on
 confirmed_on :
-    (h : History) (last : ℕ) (h' : History) (last' : ℕ) → GoesOn h last h' last' → (before : History) (observed : ObservedChain) (l : ℕ) (a : Account) →
-    Confirmed h last before observed l a → Confirmed h' last' before observed l a
-confirmed_on h last h' last' on before observed l a c =
+    (timestamps : Issuing) (h : History) (last : ℕ) (h' : History) (last' : ℕ) → GoesOn h last h' last' → (before : History) (last_before : ℕ) (observed : ObservedChain) (l clock : ℕ) (a : Account) →
+    Confirmed timestamps h last before last_before observed l clock a → Confirmed timestamps h' last' before last_before observed l clock a
+confirmed_on timestamps h last h' last' on before last_before observed l clock a c =
     record {
       some = c.some;
       backed = All-weaker (Backed h last a.low a.high) (Backed h' last' a.low a.high) (backed_on h last h' last' on a.low a.high) observed.outside c.backed;
+      its_readings = c.its_readings;
+      true_readings = true_readings_on h last h' last' on a.readings c.true_readings;
       its_writes = c.its_writes;
+      its_timestamp = c.its_timestamp;
       after_history = c.after_history;
       after_promises = c.after_promises;
       for_the_book = c.for_the_book;
@@ -137,18 +141,18 @@ module _ (parts : PartsWithLaws) (store : NewStore) where
     -- a commit's account is confirmed when it is committed
     account_new :
         (p l clock r w : ℕ) (a : Account) → e ≡ event (call.Commit p l clock r w) (Ok a) →
-        AccountStands parts store h (observed_of trace) m s before.engine p l a (engine_after rules store (e ∷ trace))
+        AccountStands parts store h (observed_of trace) m s before.engine p l clock a (engine_after rules store (e ∷ trace))
     account_new p l clock r w a is =
-        let StandsAt : Engine → Type 0 = AccountStands parts store h (observed_of trace) m s before.engine p l a in
+        let StandsAt : Engine → Type 0 = AccountStands parts store h (observed_of trace) m s before.engine p l clock a in
         let Q : Event → Type 0 = λ x. x.answer ≡ answer_in (step rules depth x.called s) → StandsAt (engine_in s (step rules depth x.called s)) in
         let kept = commit_keeps parts store h (observed_of trace) m s before.engine p l clock r w in
-        subst Q (sym is) (λ d. if_accepted (AccountStands parts store h (observed_of trace) m s before.engine p l) s (step rules depth (call.Commit p l clock r w) s) a d kept.1) by_rules
+        subst Q (sym is) (λ d. if_accepted (AccountStands parts store h (observed_of trace) m s before.engine p l clock) s (step rules depth (call.Commit p l clock r w) s) a d kept.1) by_rules
 
     confirmed_new :
         (p l clock r w : ℕ) (a : Account) → e ≡ event (call.Commit p l clock r w) (Ok a) →
-        Confirmed (history_of (e ∷ trace)) (last_after (e ∷ trace)) h (observed_of trace p) l a
+        Confirmed rules.timestamps (history_of (e ∷ trace)) (last_after (e ∷ trace)) h m.last (observed_of trace p) l clock a
     confirmed_new p l clock r w a is =
-        let Q : Event → Type 0 = λ x. Confirmed (history_with x.called x.answer h) (last_after (e ∷ trace)) h (observed_of trace p) l a in
+        let Q : Event → Type 0 = λ x. Confirmed rules.timestamps (history_with x.called x.answer h) (last_after (e ∷ trace)) h m.last (observed_of trace p) l clock a in
         subst Q (sym is) (account_new p l clock r w a is).0
 
     -- the history goes on with the event
@@ -181,7 +185,7 @@ module _ (parts : PartsWithLaws) (store : NewStore) where
             confirmed_new,
             at_each_weaker _ _
                 (λ e' earlier confirmed p l clock r w a is.
-                confirmed_on h (last_after trace) (history_of (e ∷ trace)) (last_after (e ∷ trace)) history_on (history_of earlier) (observed_of earlier p) l a (confirmed p l clock r w a is))
+                confirmed_on rules.timestamps h (last_after trace) (history_of (e ∷ trace)) (last_after (e ∷ trace)) history_on (history_of earlier) (store_after store earlier).last (observed_of earlier p) l clock a (confirmed p l clock r w a is))
                 trace before.accounts,
           );
           gone = (gone_new, before.gone);
@@ -204,7 +208,7 @@ module _ (parts : PartsWithLaws) (store : NewStore) where
         gone = tt;
       }
 
-  -- any trace that is as drawn
+  -- any trace that follows the rules
   pub by_rules_sound : (trace : Trace) → ByRules rules store trace → TraceSound rules limits store trace
   by_rules_sound [] by_rules = trace_new
   by_rules_sound (e ∷ before) by_rules = trace_on before (by_rules_sound before by_rules.1) e by_rules.0
@@ -213,21 +217,25 @@ module _ (parts : PartsWithLaws) (store : NewStore) where
 
   -- at every time of the account's interval the history holds what was read
   values_held :
-      (h : History) (last : ℕ) (before : History) (observed : ObservedChain) (l : ℕ) (a : Account) → Confirmed h last before observed l a →
-      (u : ℕ) → a.low ≤ u → u ≤ a.high → AllByRecursion (λ r. ValueAt u r.value (h r.key)) observed.outside
-  values_held h last before observed l a c u from to =
+      (h : History) (last : ℕ) (a : Account) (xs : List ValueRead) → AllByRecursion (Backed h last a.low a.high) xs →
+      (u : ℕ) → a.low ≤ u → u ≤ a.high → AllByRecursion (λ r. ValueAt u r.value (h r.key)) xs
+  values_held h last a xs backed u from to =
       All-weaker (Backed h last a.low a.high) (λ r. ValueAt u r.value (h r.key))
       (λ r b. (version_read b.reading, b.is_true.current u (omega (arith, b.from_low)) (omega (arith, b.to_high)), b.same_value))
-      observed.outside c.backed
+      xs backed
 
   account_law :
-      (h : History) (last : ℕ) (before : Trace) (p l : ℕ) (a : Account) →
-      Confirmed h last (history_of before) (observed_of before p) l a → AccountLaw h before p l a
-  account_law h last before p l a c =
+      (h : History) (last : ℕ) (before : Trace) (p l clock : ℕ) (a : Account) →
+      Confirmed rules.timestamps h last (history_of before) (store_after store before).last (observed_of before p) l clock a →
+      AccountLaw rules store h before p l clock a
+  account_law h last before p l clock a c =
       record {
         some = c.some;
-        agrees = λ u lies. values_held h last (history_of before) (observed_of before p) l a c u lies.0 lies.1;
+        agrees = λ u lies. values_held h last a (observed_of before p).outside c.backed u lies.0 lies.1;
+        its_readings = c.its_readings;
+        true_readings = All-weaker (λ r. TrueReading h last r.key r.reading) (TrueOf h) (λ r t u lies. t.current u lies.0 lies.1) a.readings c.true_readings;
         its_writes = c.its_writes;
+        its_timestamp = c.its_timestamp;
         after_history = c.after_history;
         after_promises = c.after_promises;
         for_the_book = c.for_the_book;
@@ -240,16 +248,16 @@ module _ (parts : PartsWithLaws) (store : NewStore) where
   leg_some h last observed None l leg sound e = absurd (grind arith)
   leg_some h last observed (Some c) l leg sound e = (leg_sound last limits observed c sound.legs l leg e).times.some
 
-  law_from_sound : (trace : Trace) → TraceSound rules limits store trace → TraceLaw rules store trace
+  pub law_from_sound : (trace : Trace) → TraceSound rules limits store trace → TraceLaw rules store trace
   law_from_sound trace sound =
       record {
         by_rules = sound.by_rules;
-        commits = at_each_weaker _ _ (λ e before confirmed p l clock r w a is. account_law (history_of trace) (last_after trace) before p l a (confirmed p l clock r w a is)) trace sound.accounts;
+        commits = at_each_weaker _ _ (λ e before confirmed p l clock r w a is. account_law (history_of trace) (last_after trace) before p l clock a (confirmed p l clock r w a is)) trace sound.accounts;
         reads = sound.gone;
         intervals = λ p l leg e. leg_some (history_of trace) (last_after trace) (observed_of trace p) ((engine_after rules store trace).places p) l leg (sound.engine.chains p) e;
       }
 
-  -- a trace by its calls is as drawn
+  -- a trace by its calls follows the rules
   pub calls_by_rules :
       (before : Trace) (calls : List Call) → ByRules rules store before →
       ByRules rules store (trace_from rules store (engine_after rules store before) before calls)
@@ -287,3 +295,13 @@ the_parts =
 
 pub the_rules_lawful : KeepTraceLaw the_rules
 the_rules_lawful = rests_on_laws the_parts
+
+-- Timestamps by the rules in force.
+
+issued_is : (clock last t : ℕ) → issued clock last ≡ Ok t → t ≡ max clock (last + 1)
+issued_is clock last t e = grind (arith, nat_tests)
+
+pub timestamps_in_every_trace : TimestampsInEveryTrace
+timestamps_in_every_trace store trace by_rules =
+    at_each_weaker _ _ (λ e before law p l clock r w a is some. issued_is clock (store_after store before).last a.timestamp ((law p l clock r w a is).its_timestamp some))
+    trace (law_from_sound the_parts store trace (by_rules_sound the_parts store trace by_rules)).commits

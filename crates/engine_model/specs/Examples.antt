@@ -76,7 +76,7 @@ pub record BreakIn : Type 0 where
       ≡ event (call.Commit 0 3 40 32 8) (Ok break_in_account) ∷ trace_of the_rules table read_then_pruned
   -- what the law says of it, and so of time 20
   pub law :
-      AccountLaw (history_of (trace_of the_rules table break_in)) (trace_of the_rules table read_then_pruned) 0 3 break_in_account
+      AccountLaw the_rules table (history_of (trace_of the_rules table break_in)) (trace_of the_rules table read_then_pruned) 0 3 40 break_in_account
   pub zone : ValueAt 20 5 (history_of (trace_of the_rules table break_in) 7)
   pub set_record : ValueAt 20 3 (history_of (trace_of the_rules table break_in) 9)
   -- though the zone is 6 since time 30, the notice of that still waits, and the store has dropped the version that was read
@@ -92,7 +92,7 @@ pub record BreakIn : Type 0 where
       GoneLaw (history_of (trace_of the_rules table pruned)) (store_after table (trace_of the_rules table pruned)).kept
       (leg_at (engine_after the_rules table (trace_of the_rules table pruned)) 0 3) 7
 
--- Two wrong rules, each with a short trace in which a committed account tells of the zone what was not so: 5 at time 30.
+-- Two wrong rules, each with a short trace in which a committed account says of the zone what was not so: 5 at time 30.
 
 -- rules with one in which something is wrong
 abbrev pub rules_but : (Meaning → ℕ → ℕ → Result Reading Fault) → (Interval → Reading → Interval) → Rules
@@ -108,7 +108,7 @@ pub record Breaks (rules : Rules) (calls : List Call) (shown : Account) : Type 0
   -- the commit is accepted with this account
   pub committed : then_committed rules calls ≡ event (call.Commit 0 0 0 32 8) (Ok shown) ∷ trace_of rules table calls
   -- its chain has read the zone as 5, and nothing else
-  pub has_read : (observed_of (trace_of rules table calls) 0).outside ≡ value_read 7 5 ∷ []
+  pub has_read : (observed_of (trace_of rules table calls) 0).outside ≡ value_read 0 7 5 ∷ []
   -- time 30 is in its interval
   pub at_thirty : Lies 30 (from_to shown.low shown.high)
   -- but then the zone was 6, and not 5

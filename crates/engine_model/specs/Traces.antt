@@ -1,6 +1,7 @@
--- Events and traces, and what a trace tells by its calls and answers alone: the history of the site, what the store has kept
--- of it, and of the chain at a place what its legs have written and what it has read outside its own writes.
-use Rattle.std.specs.Prelude.{◌≡◌, ℕ, ◌≤◌, List, [], ◌∷◌, ◌++◌, Some, None, Ok, Err, Option, Result}
+-- Events and traces, and what a trace shows by its calls and answers alone: the history of the site, what the store has kept
+-- of it, and of the chain at a place the workers of its legs, what they have written, and what they have read outside the chain's
+-- own writes.
+use Rattle.std.specs.Prelude.{◌≡◌, ℕ, ◌≤◌, Bool, false, if◌then◌else◌, ◌&&◌, ◌||◌, List, [], ◌∷◌, ◌++◌, map, Some, None, Ok, Err, Option, Result, ◌==◌}
 use Rattle.std.specs.Option.{option_or}
 use Rattle.std.proofs.Common.{lit≤}
 use Rattle.snapshot.specs.Limits.{key_count}
@@ -49,7 +50,7 @@ new_table capacity room = record { depth = 16; not_none = lit≤ tt; capacity = 
 abbrev pub new_newest : NewStore
 new_newest = record { depth = 1; not_none = lit≤ tt; capacity = key_count; room = lit≤ tt }
 
--- What the rules draw from the calls.
+-- What follows from the calls by the rules.
 
 module _ (rules : Rules) (store : NewStore) where
   abbrev pub new_over : Engine
@@ -62,7 +63,7 @@ module _ (rules : Rules) (store : NewStore) where
       let s = engine_after before in
       engine_in s (step rules store.depth e.called s)
 
-  -- every answer is the one that the rules draw from the calls before it
+  -- every answer is the one that follows by the rules from the calls before it
   abbrev pub ByRules : Trace → Type 0
   ByRules trace =
       AtEach (λ e before. e.answer ≡ answer_in (step rules store.depth e.called (engine_after before))) trace
@@ -137,26 +138,41 @@ store_after store (e ∷ before) = store_with store.depth e.called e.answer (sto
 
 -- The chain at a place.
 
--- a read: its key, and the value that was answered
+-- what the events show of a leg: the worker that it was opened at, and of each key the value that it has written or taken over,
+-- if any
+pub record ObservedLeg : Type 0 where
+  pub worker : ℕ
+  pub written : ℕ → Option ℕ
+
+abbrev pub observed_leg : ℕ → (ℕ → Option ℕ) → ObservedLeg
+observed_leg w ws = record { worker = w; written = ws }
+
+-- a read: its leg and key, and the value that was answered
 pub record ValueRead : Type 0 where
+  pub leg : ℕ
   pub key : ℕ
   pub value : ℕ
 
-abbrev pub value_read : ℕ → ℕ → ValueRead
-value_read k x = record { key = k; value = x }
+abbrev pub value_read : ℕ → ℕ → ℕ → ValueRead
+value_read l k x = record { leg = l; key = k; value = x }
 
--- what the events tell of a chain: of each leg and key the value that the leg has written or taken over, if any, and the
--- reads that were answered while the leg had none, the latest first
+-- what the events show of a chain: its legs by their numbers, and the reads that were answered while their leg had no value for
+-- the key, the latest first
 pub record ObservedChain : Type 0 where
-  pub written : ℕ → ℕ → Option ℕ
+  pub legs : ℕ → ObservedLeg
   pub outside : List ValueRead
 
+-- nothing so far: no leg was opened (where one was not, its worker counts as 0), and nothing was written or read
 abbrev pub nothing_observed : ObservedChain
-nothing_observed = record { written = λ l k. None; outside = [] }
+nothing_observed = record { legs = λ l. observed_leg 0 (λ k. None); outside = [] }
+
+-- a leg was opened at this worker, with these writes
+abbrev pub leg_opened : ℕ → ℕ → (ℕ → Option ℕ) → ObservedChain → ObservedChain
+leg_opened l w ws d = record { legs = with_at l (observed_leg w ws) d.legs; outside = d.outside }
 
 -- a leg has these writes
 abbrev pub leg_wrote : ℕ → (ℕ → Option ℕ) → ObservedChain → ObservedChain
-leg_wrote l ws d = record { written = with_at l ws d.written; outside = d.outside }
+leg_wrote l ws d = leg_opened l (d.legs l).worker ws d
 
 -- where the leg has no value for the key, a read lies outside the chain's writes
 abbrev pub outside_with : Option ℕ → ValueRead → List ValueRead → List ValueRead
@@ -166,19 +182,20 @@ outside_with (Some x) r rs = rs
 -- a leg was answered this value for a key
 abbrev pub leg_read : ℕ → ℕ → ℕ → ObservedChain → ObservedChain
 leg_read l k x d =
-    record { written = d.written; outside = outside_with (d.written l k) (value_read k x) d.outside }
+    record { legs = d.legs; outside = outside_with ((d.legs l).written k) (value_read l k x) d.outside }
 
--- what an accepted call tells of the chains, by their places: a begin starts anew, a new leg takes over the writes of those
--- that ended for it (where both legs of a join have a key, the second-named one's value), a write and a read are noted
+-- what an accepted call shows of the chains, by their places: a begin starts anew, a new leg has its worker and takes over the
+-- writes of those that ended for it (where both legs of a join have a key, the second-named one's value), a write and a read are
+-- noted
 abbrev pub observed_by : (c : Call) → AnswerTo c → (ℕ → ObservedChain) → ℕ → ObservedChain
-observed_by (call.Begin p w) n d q = with_at p nothing_observed d q
-observed_by (call.Hand p l w) n d q = with_at p (leg_wrote n ((d p).written l) (d p)) d q
+observed_by (call.Begin p w) n d q = with_at p (leg_opened n w (λ k. None) nothing_observed) d q
+observed_by (call.Hand p l w) n d q = with_at p (leg_opened n w ((d p).legs l).written (d p)) d q
 observed_by (call.Fork p l w v) ns d q =
-    with_at p (leg_wrote ns.1 ((d p).written l) (leg_wrote ns.0 ((d p).written l) (d p))) d q
+    with_at p (leg_opened ns.1 v ((d p).legs l).written (leg_opened ns.0 w ((d p).legs l).written (d p))) d q
 observed_by (call.Join p l j w) n d q =
-    with_at p (leg_wrote n (λ k. option_or ((d p).written j k) ((d p).written l k)) (d p)) d q
+    with_at p (leg_opened n w (λ k. option_or (((d p).legs j).written k) (((d p).legs l).written k)) (d p)) d q
 observed_by (call.Read p l k) x d q = with_at p (leg_read l k x (d p)) d q
-observed_by (call.Write p l k x) u d q = with_at p (leg_wrote l (with_at k (Some x) ((d p).written l)) (d p)) d q
+observed_by (call.Write p l k x) u d q = with_at p (leg_wrote l (with_at k (Some x) ((d p).legs l).written) (d p)) d q
 observed_by (call.Commit p l c r w) a d q = d q
 observed_by (call.Abandon p) u d q = d q
 observed_by (call.Deliver i) u d q = d q
@@ -193,3 +210,29 @@ observed_with c (Err f) d q = d q
 abbrev pub observed_of : Trace → ℕ → ObservedChain
 observed_of [] q = nothing_observed
 observed_of (e ∷ before) q = observed_with e.called e.answer (observed_of before) q
+
+-- The readings of a chain.
+
+-- has this leg read this key, in one of these reads?
+abbrev pub has_read : ℕ → ℕ → List ValueRead → Bool
+has_read l k [] = false
+has_read l k (r ∷ rs) = (r.leg == l && r.key == k) || has_read l k rs
+
+-- of reads, the latest first, each leg's first of each key, the earliest first
+abbrev pub first_reads : List ValueRead → List ValueRead
+first_reads [] = []
+first_reads (r ∷ rs) = if has_read r.leg r.key rs then first_reads rs else first_reads rs ++ (r ∷ [])
+
+-- a reading without its times: its worker and key, and the value
+pub record UntimedReading : Type 0 where
+  pub worker : ℕ
+  pub key : ℕ
+  pub value : ℕ
+
+abbrev pub untimed : ℕ → ℕ → ℕ → UntimedReading
+untimed w k x = record { worker = w; key = k; value = x }
+
+-- the readings of a chain, as the events show them: of its reads outside its writes each leg's first of each key, in the order in
+-- which they were made, each with the worker of its leg
+abbrev pub observed_readings : ObservedChain → List UntimedReading
+observed_readings d = map (λ r. untimed (d.legs r.leg).worker r.key r.value) (first_reads d.outside)
