@@ -76,10 +76,10 @@ notified_change :
     (n : Notice) (c : Cache) (e : CacheEntry) → e.key ≡ n.key → Has c e →
     AfterNotice c n (entry_of e.key (noticed n.reading e.reading))
 notified_change n c e same there =
-    let Told : Reading → Type 0 = λ r. AfterNotice c n (entry_of e.key r) in
-    let widens : e.reading.timestamp ≡ n.reading.timestamp → Told (widened e.reading n.reading.promise) = λ t. inr (inr (record { old = e; there = there; same_key = same; same_time = t; as_widened = refl })) in
-    let unless_later = cond_both (e.reading.timestamp == n.reading.timestamp) _ _ Told (λ t. widens (eqb-true _ _ t)) (λ _. inl there) in
-    cond_both (nat_lt e.reading.timestamp n.reading.timestamp) _ _ Told (λ _. inr (inl (cc))) (λ _. unless_later)
+    let Follows : Reading → Type 0 = λ r. AfterNotice c n (entry_of e.key r) in
+    let widens : e.reading.timestamp ≡ n.reading.timestamp → Follows (widened e.reading n.reading.promise) = λ t. inr (inr (record { old = e; there = there; same_key = same; same_time = t; as_widened = refl })) in
+    let unless_later = cond_both (e.reading.timestamp == n.reading.timestamp) _ _ Follows (λ t. widens (eqb-true _ _ t)) (λ _. inl there) in
+    cond_both (nat_lt e.reading.timestamp n.reading.timestamp) _ _ Follows (λ _. inr (inl (cc))) (λ _. unless_later)
 
 -- The laws.
 
@@ -89,5 +89,5 @@ the_caches_lawful =
       answers = answer_is;
       used = used_adds;
       stored = stored_adds;
-      observed = λ n c. all_noticed (Has c) (AfterNotice c n) n (λ e h. inl h) (notified_change n c) c (all_has_itself c);
+      notified = λ n c. all_noticed (Has c) (AfterNotice c n) n (λ e h. inl h) (notified_change n c) c (all_has_itself c);
     }

@@ -104,7 +104,7 @@ cache_shape =
       empty = record { few_enough = omega arith; apart = tt };
       used = used_shaped;
       stored = stored_shaped;
-      observed = noticed_shaped;
+      notified = noticed_shaped;
       found = used_found;
       latest = λ e c. (_, last_eight_push (without e.key c) e);
       joins = λ e c few none. let z : length c + 1 - cache_keys ≡ 0 = omega arith in rw z at (used_new e c none);

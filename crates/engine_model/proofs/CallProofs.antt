@@ -194,7 +194,7 @@ module _
         ⊎_elim
         (λ has. all-has P c x all has)
         (λ new. ⊎_elim (λ same. subst P (sym same) true_n) (widen x) new)
-        from) (parts.caches.after_notice n c) (parts.cache_laws.observed n c)
+        from) (parts.caches.after_notice n c) (parts.cache_laws.notified n c)
 
     -- a true reading that meets the leg's interval answers
     answered_sound :

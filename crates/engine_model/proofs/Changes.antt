@@ -1,4 +1,4 @@
--- A sound engine with another chain at a place, another cache, or more told of a chain.
+-- A sound engine with another chain at a place, another cache, or more observed of a chain.
 use Rattle.std.proofs.Common.{◌≡◌, ℕ, IfSome, Some, None, Option, sym, subst}
 use Rattle.std.proofs.lemmas.Option.{MatchOption-at_some}
 use Rattle.store.specs.Meaning.{Meaning}
@@ -45,7 +45,7 @@ module _ (store : NewStore) (limits : ChainLimits) (h : History) (observed : ℕ
         chains = at_each (λ q c. IfSome c (ChainSound h last limits (observed q))) p None s.places tt sound.chains;
       }
 
-  -- the chain at a place stays, and more is told of it
+  -- the chain at a place stays, and more is observed of it
   pub more_observed :
       (p : ℕ) (observed' : ObservedChain) (chain : Chain) → s.places p ≡ Some chain → ChainSound h last limits observed' chain →
       Sound store limits h (with_at p observed' observed) m s

@@ -298,7 +298,7 @@ the_rules_lawful = rests_on_laws the_parts
 
 -- Timestamps by the rules in force.
 
-issued_is : (clock last t : ℕ) → issued clock last ≡ Ok t → t ≡ max clock (last + 1)
+pub issued_is : (clock last t : ℕ) → issued clock last ≡ Ok t → t ≡ max clock (last + 1)
 issued_is clock last t e = grind (arith, nat_tests)
 
 pub timestamps_in_every_trace : TimestampsInEveryTrace

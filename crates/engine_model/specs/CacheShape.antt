@@ -27,7 +27,7 @@ pub record CacheShape : Type 0 where
   pub empty : Shaped []
   pub used : (e : CacheEntry) (c : Cache) → Shaped c → Shaped (used_latest e c)
   pub stored : (s : ℕ) (e : CacheEntry) (c : Cache) → Shaped c → Shaped (with_answer s e c)
-  pub observed : (n : Notice) (c : Cache) → Shaped c → Shaped (with_notice n c)
+  pub notified : (n : Notice) (c : Cache) → Shaped c → Shaped (with_notice n c)
   -- an entry that is used is its key's entry, and the last
   pub found : (e : CacheEntry) (c : Cache) → Shaped c → look_up e.key (used_latest e c) ≡ Some e
   pub latest : (e : CacheEntry) (c : Cache) → (others : Cache) × (used_latest e c ≡ others ++ (e ∷ []))

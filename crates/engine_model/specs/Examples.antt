@@ -1,7 +1,7 @@
 -- Traces that show what the law says, and that it says something.
-use Rattle.std.specs.Prelude.{◌≡◌, ℕ, ◌+◌, max, if◌then◌else◌, List, [], ◌∷◌, ◌++◌, map, Ok, Err, Result, nat_lt}
+use Rattle.std.specs.Prelude.{◌≡◌, ℕ, ◌+◌, max, if◌then◌else◌, List, [], ◌∷◌, ◌++◌, map, Some, None, Ok, Err, Result, ◌==◌, nat_lt}
 use Rattle.std.proofs.Common.{lit≤}
-use Rattle.std.specs.List.{ContainsAt as Has}
+use Rattle.std.specs.List.{ContainsAt as Has, AllByRecursion}
 use Rattle.snapshot.specs.Accounts.{Account}
 use Rattle.snapshot.specs.Intervals.{Lies, from_to, narrowed}
 use Rattle.snapshot.specs.Limits.{open_end}
@@ -12,9 +12,9 @@ use Rattle.snapshot.specs.declared.account.Write.{Write}
 use Rattle.snapshot.specs.declared.fault.Fault.{Fault}
 use Rattle.snapshot.specs.declared.fault.Refusal.TheVariants.{VersionGone}
 use Rattle.snapshot.specs.declared.interval.Interval.{Interval}
-use Rattle.store.specs.Meaning.{Meaning, issued, version_of, version_answer, query_fault}
-use Rattle.engine_model.specs.Law.{ValueAt, AccountLaw, GoneLaw, leg_at, TraceLaw, KeepTraceLaw}
-use Rattle.engine_model.specs.Traces.{event, Trace, NewStore, new_table, engine_after, trace_of, history_of, store_after, value_read, observed_of}
+use Rattle.store.specs.Meaning.{Meaning, issued, version_of, version_answer, query_fault, written_to}
+use Rattle.engine_model.specs.Law.{ValueAt, TrueOf, without_times, AccountLaw, GoneLaw, leg_at, TraceLaw, KeepTraceLaw}
+use Rattle.engine_model.specs.Traces.{event, Trace, NewStore, new_table, engine_after, trace_of, history_of, store_after, value_read, observed_of, untimed}
 use Rattle.engine_model.specs.Rules.{Rules, the_caches, the_write_sets, the_limits, the_rules}
 use Rattle.engine_model.specs.declared.calls.Call.{Call}
 use Rattle.engine_model.specs.declared.calls.Call.TheVariants as call
@@ -68,15 +68,29 @@ abbrev pub break_in_account : Account
 break_in_account =
     account 20 20 40 (read 1 7 5 10 20 ∷ read 2 9 3 20 30 ∷ read 5 7 5 10 29 ∷ []) (wrote 11 1 ∷ [])
 
+-- What that account has by the law, whatever else is in it.
+pub record BreakInAccount (a : Account) : Type 0 where
+  -- these readings and no others: worker 1 read the zone, worker 2 the set record, and worker 5 the zone
+  pub readings : without_times a.readings ≡ untimed 1 7 5 ∷ untimed 2 9 3 ∷ untimed 5 7 5 ∷ []
+  -- the guard's orders, and no other key
+  pub writes : (k : ℕ) → written_to k a.writes ≡ (if k == 11 then Some 1 else None)
+  -- at its clock reading
+  pub timestamp : a.timestamp ≡ 40
+
 -- What comes of it.
 pub record BreakIn : Type 0 where
   -- the commit is accepted with that account
   pub committed :
       trace_of the_rules table break_in
       ≡ event (call.Commit 0 3 40 32 8) (Ok break_in_account) ∷ trace_of the_rules table read_then_pruned
-  -- what the law says of it, and so of time 20
+  -- what the law says of it
   pub law :
       AccountLaw the_rules table (history_of (trace_of the_rules table break_in)) (trace_of the_rules table read_then_pruned) 0 3 40 break_in_account
+  -- and an account with other readings, other writes or another timestamp would not keep the law
+  pub by_law :
+      (a : Account) →
+      AccountLaw the_rules table (history_of (trace_of the_rules table break_in)) (trace_of the_rules table read_then_pruned) 0 3 40 a → BreakInAccount a
+  -- so what was read was true of time 20
   pub zone : ValueAt 20 5 (history_of (trace_of the_rules table break_in) 7)
   pub set_record : ValueAt 20 3 (history_of (trace_of the_rules table break_in) 9)
   -- though the zone is 6 since time 30, the notice of that still waits, and the store has dropped the version that was read
@@ -92,7 +106,7 @@ pub record BreakIn : Type 0 where
       GoneLaw (history_of (trace_of the_rules table pruned)) (store_after table (trace_of the_rules table pruned)).kept
       (leg_at (engine_after the_rules table (trace_of the_rules table pruned)) 0 3) 7
 
--- Two wrong rules, each with a short trace in which a committed account says of the zone what was not so: 5 at time 30.
+-- Two wrong rules, with short traces in which a committed account says of the zone what was not so: 5 at time 30.
 
 -- rules with one in which something is wrong
 abbrev pub rules_but : (Meaning → ℕ → ℕ → Result Reading Fault) → (Interval → Reading → Interval) → Rules
@@ -150,16 +164,37 @@ late_answer m (Err f) = Err f
 abbrev pub promises_late : Rules
 promises_late = rules_but (λ m k s. late_answer m (version_answer m k s)) narrowed
 
--- a chain that read at time 10 reads the old zone and so leaves it in worker 1's cache, from which the next chain reads
-abbrev pub read_from_cache : List Call
-read_from_cache =
+-- a chain that has read at time 10 reads the old zone after another one has written it
+abbrev pub read_at_ten : List Call
+read_at_ten =
     call.Begin 0 1 ∷ call.Write 0 0 7 5 ∷ call.Commit 0 0 10 32 8
     ∷ call.Begin 0 1 ∷ call.Read 0 0 9
     ∷ call.Begin 1 2 ∷ call.Write 1 0 7 6 ∷ call.Commit 1 0 30 32 8
-    ∷ call.Read 0 0 7 ∷ call.Commit 0 0 0 32 8
-    ∷ call.Begin 0 1 ∷ call.Read 0 0 7
+    ∷ call.Read 0 0 7
     ∷ []
 
--- the commit's account says so of times 10 to 30
+-- that chain commits, and the next one reads the old zone from worker 1's cache, where the first has left it
+abbrev pub read_from_cache : List Call
+read_from_cache = read_at_ten ++ (call.Commit 0 0 0 32 8 ∷ call.Begin 0 1 ∷ call.Read 0 0 7 ∷ [])
+
+-- the account of the second chain says so of times 10 to 30
 abbrev pub LatePromise : Type 0
 LatePromise = Breaks promises_late read_from_cache (account 10 30 0 (read 1 7 5 10 30 ∷ []) [])
+
+-- That of the first chain has the right interval, but lists a reading that is not true: the zone as 5 up to time 30.
+pub record ListsUntrue (rules : Rules) (calls : List Call) (shown : Account) : Type 0 where
+  -- the commit is accepted with this account
+  pub committed : then_committed rules calls ≡ event (call.Commit 0 0 0 32 8) (Ok shown) ∷ trace_of rules table calls
+  -- at every time of its interval the history holds what the chain has read
+  pub agrees :
+      (s : ℕ) → Lies s (from_to shown.low shown.high) →
+      AllByRecursion (λ r. ValueAt s r.value (history_of (then_committed rules calls) r.key)) (observed_of (trace_of rules table calls) 0).outside
+  -- but it lists this reading, and at time 30 the zone was 6, and not 5
+  pub listed : Has shown.readings (read 1 7 5 10 30)
+  pub six : ValueAt 30 6 (history_of (then_committed rules calls) 7)
+  pub untrue : TrueOf (history_of (then_committed rules calls)) (read 1 7 5 10 30) → ⊥
+  -- and so the trace does not keep the law
+  pub contradicts : TraceLaw rules table (then_committed rules calls) → ⊥
+
+abbrev pub LatePromiseListed : Type 0
+LatePromiseListed = ListsUntrue promises_late read_at_ten (account 10 10 0 (read 1 9 0 0 10 ∷ read 1 7 5 10 30 ∷ []) [])

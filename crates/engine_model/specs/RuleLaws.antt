@@ -46,7 +46,7 @@ pub record CacheLaws (rules : CacheRules) : Type 0 where
   pub used : (e : CacheEntry) (c : Cache) → AllByRecursion (AddedTo c e) (rules.after_use e c)
   pub stored : (s : ℕ) (e : CacheEntry) (c : Cache) → AllByRecursion (AddedTo c e) (rules.after_store s e c)
   -- after a notice none but those it had, the notice's, and one that was widened by it
-  pub observed : (n : Notice) (c : Cache) → AllByRecursion (AfterNotice c n) (rules.after_notice n c)
+  pub notified : (n : Notice) (c : Cache) → AllByRecursion (AfterNotice c n) (rules.after_notice n c)
 
 -- Write sets.
 

@@ -88,7 +88,7 @@ unfoldable pub if_free : {X : Type 0} → Option Chain → EngineFault → StepO
 if_free None f next = next
 if_free (Some c) f next = refused f
 
--- a result, or the refusal that it tells
+-- a result, or the refusal of its fault
 unfoldable pub with_result : {X Y E : Type 0} → Result Y E → (E → EngineFault) → (Y → StepOutcome X) → StepOutcome X
 with_result (Ok y) f next = next y
 with_result (Err e) f next = refused (f e)

@@ -125,10 +125,12 @@ pub fn written_behind() -> [Call; 8]
     ]
 }
 
-// A chain that read at time 10 reads the old zone and so leaves it in worker 1's cache, from which the next chain reads. By
-// rules under which a promise is one too late, a commit after these calls shows what was not so.
+// A chain that has read at time 10 reads the old zone after another one has written it, and commits; the next one reads the old
+// zone from worker 1's cache, where the first has left it. By rules under which a promise is one too late, the first chain's
+// account lists a reading that is not true, and a commit after these calls shows what was not so.
 pub fn read_from_cache() -> [Call; 12]
     ensures calls { result ≡ example.read_from_cache }
+    ensures lists { example.LatePromiseListed }
     ensures breaks { example.LatePromise }
 {
     [
