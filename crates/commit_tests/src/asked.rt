@@ -82,6 +82,8 @@ impl Watched<'_> {
 impl Reads for Watched<'_> {
     ghost meaning = { λ w. newest_meaning w.store };
 
+    ghost least_capacity = { λ w. lit≤ tt };
+
     fn last(&self) -> u64 {
         self.note_other();
         self.store.last()

@@ -31,6 +31,8 @@ struct Watched<'a> {
 impl Reads for Watched<'_> {
     ghost meaning = { λ w. newest_meaning w.store };
 
+    ghost least_capacity = { λ w. lit≤ tt };
+
     fn last(&self) -> u64 {
         self.store.last()
     }

@@ -48,6 +48,8 @@ impl Newest {
 impl Reads for Newest {
     ghost meaning = { newest_meaning };
 
+    ghost least_capacity = { λ s. lit≤ tt };
+
     fn last(&self) -> u64 {
         self.last
     }

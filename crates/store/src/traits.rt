@@ -1,6 +1,7 @@
 // The two traits of a store: the reading side, and the full store built on it. Every kind of store is known by its
 // meaning alone: each call answers what the rules draw from the meaning, and leaves the meaning that they draw.
 ghost use Rattle.std.specs.Prelude.{◌≡◌, ℕ, ◌≤◌, OnErr};
+ghost use Rattle.snapshot.specs.Limits.{key_count};
 ghost use Rattle.store.specs.Meaning.{Meaning, version_answer, commit_answer, after_commit, after_prune};
 
 use snapshot::account::{Reading, Write};
@@ -9,6 +10,9 @@ use snapshot::fault::Fault;
 // What can be asked of a store. Neither question changes it.
 pub trait Reads {
     ghost meaning: { Self → Meaning };
+
+    // there is room for one version of each key
+    ghost least_capacity: { (s : Self) → key_count ≤ (meaning s).capacity };
 
     // The last timestamp.
     fn last(&self) -> u64

@@ -1,8 +1,8 @@
 // The table store: up to 16 versions of a key, in memory of 64 to 1,024 records that a caller lends.
-ghost use Rattle.std.specs.Prelude.{◌≡◌, ◌<◌, true, false, length, OnErr, OnOk};
+ghost use Rattle.std.specs.Prelude.{◌≡◌, ◌<◌, ◌≤◌, true, false, length, nat_le, OnErr, OnOk};
 ghost use Rattle.std.proofs.Common.{lit≤};
 ghost use Rattle.store.specs.Meaning.{new_store, newest_at, commit_answer, after_commit, after_prune, pruned_at, versions_kept, with_writes};
-ghost use Rattle.snapshot.specs.Limits.{is_key, key_count};
+ghost use Rattle.snapshot.specs.Limits.{is_key, key_count, least_records, most_records};
 ghost use Rattle.table_store.specs.Records.{first_records, if_fits};
 ghost use Rattle.table_store.specs.Stores.{HoldsVersions, LeavesUnfit, meaning_of};
 ghost use Rattle.table_store.specs.Tables.{capacity_of, is_table_size, memory_check, shown_in, table_depth};
@@ -99,7 +99,12 @@ fn first_list(memory: &mut [Record]) -> RecordSlice<'_>
 }
 
 impl Reads for Table<'_> {
+    ghost use Rattle.std.proofs.lemmas.Bool.{and_parts, cond_both, leb-true};
+
     ghost meaning = { meaning_of };
+
+    // all of fit memory, else 64
+    ghost least_capacity = { λ s. let n = length s.list.memory.now in cond_both (is_table_size n) n key_count (λ c. key_count ≤ c) (λ fit. leb-true _ _ (and_parts (nat_le least_records n) (nat_le n most_records) fit).0) (λ _. lit≤ tt) };
 
     fn last(&self) -> u64 {
         self.last
