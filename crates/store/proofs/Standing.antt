@@ -1,15 +1,16 @@
 -- What stands of every store, told by what its keys ever had: a new store has it, and each call keeps it.
-use Rattle.std.proofs.Common.{◌≡◌, ℕ, zero, suc, ◌-◌, ◌<◌, ◌≤◌, min, true, List, [], ◌∷◌, ◌++◌, length, drop, Some, None, Ok, Err, Option, Result, refl, arith}
+use Rattle.std.proofs.Common.{◌≡◌, ℕ, zero, suc, ◌+◌, ◌-◌, ◌<◌, ◌≤◌, min, max, true, List, [], ◌∷◌, ◌++◌, length, drop, Some, None, Ok, Err, Option, Result, refl, ap, ◌∙◌, arith}
 use Rattle.std.specs.Result.{result_ok}
 use Rattle.std.proofs.ByRecursion.{All-append}
 use Rattle.std.proofs.lemmas.List.{append-nil, length-drop, length_push}
-use Rattle.std.proofs.lemmas.Bool.{cond_both}
+use Rattle.std.proofs.lemmas.Bool.{cond_both, le-leb, lt-leb}
 use Rattle.std.proofs.lemmas.Bool.Decides.{nat_tests}
-use Rattle.snapshot.specs.Limits.{key_count, is_key, is_timestamp}
+use Rattle.snapshot.specs.Limits.{open_end, key_count, is_key, is_timestamp}
 use Rattle.snapshot.specs.declared.account.Write.{Write}
 use Rattle.snapshot.specs.declared.fault.Fault.{Fault}
+use Rattle.snapshot.specs.declared.fault.Refusal.TheVariants.{CapacityExceeded}
 use Rattle.store.specs.Laws.{Rises, versions_of, IssuingLaws}
-use Rattle.store.specs.Meaning.{Meaning, Issuing, version_of, new_store, issued, timestamp_by, written_to, kept_with, with_writes, versions_below, versions_kept, if_room, commit_answer_by, commit_answer, committed, after_commit, after_prune}
+use Rattle.store.specs.Meaning.{Meaning, Issuing, version_of, new_store, fit_writes, issued, timestamp_by, timestamp_for, store_fault, written_to, kept_with, with_writes, versions_below, versions_kept, if_room, commit_answer_by, commit_answer, committed, after_commit, after_prune}
 use Rattle.store.specs.declared.version.Version.{Version}
 use Rattle.store.proofs.Versions.{UpTo, FromZero, EndOf, up_to_weaker, before_from_up_to, rises_push, from_zero_append, end_drop, end_append, outdated_not_all}
 
@@ -130,6 +131,12 @@ with_room depth ws m (Err f) t e = grind arith
 fit_issued : (issue : Issuing) (clock : ℕ) (ws : List Write) (last t : ℕ) → timestamp_by issue clock ws last ≡ Ok t → issue clock last ≡ Ok t
 fit_issued issue clock ws last t e = grind arith
 
+-- its writes are fit
+pub accepted_fit : (issue : Issuing) (depth clock : ℕ) (ws : List Write) (m : Meaning) (t : ℕ) → commit_answer_by issue depth clock ws m ≡ Ok t → fit_writes ws ≡ true
+accepted_fit issue depth clock ws m t e =
+    let issued = (with_room depth ws m (timestamp_by issue clock ws m.last) t e).1 in
+    grind arith
+
 -- its timestamp is one that was issued
 pub accepted_issued : (issue : Issuing) (depth clock : ℕ) (ws : List Write) (m : Meaning) (t : ℕ) → commit_answer_by issue depth clock ws m ≡ Ok t → issue clock m.last ≡ Ok t
 accepted_issued issue depth clock ws m t e =
@@ -144,6 +151,26 @@ accepted issue laws depth clock ws m t e =
       after_last = laws.later clock m.last t time;
     }
 
+-- A commit that is refused for want of room.
+
+refused_at : (depth clock : ℕ) (ws : List Write) (m : Meaning) (r : Result ℕ Fault) → timestamp_for clock ws m.last ≡ r → if_room depth ws m r ≡ Err (store_fault CapacityExceeded) → (fit_writes ws ≡ true) × (t : ℕ) × (m.capacity < versions_kept (with_writes depth t ws m))
+refused_at depth clock ws m (Ok t) time e = (grind arith, t, grind (arith, nat_tests))
+refused_at depth clock ws m (Err f) time e = absurd (grind arith)
+
+-- its writes are fit, and what they would leave exceeds the capacity
+pub refused_for_room : (depth clock : ℕ) (ws : List Write) (m : Meaning) → commit_answer depth clock ws m ≡ Err (store_fault CapacityExceeded) → (fit_writes ws ≡ true) × (t : ℕ) × (m.capacity < versions_kept (with_writes depth t ws m))
+refused_for_room depth clock ws m e = refused_at depth clock ws m (timestamp_for clock ws m.last) refl e
+
+pub refused_beyond : (depth clock : ℕ) (ws : List Write) (m : Meaning) (t : ℕ) → timestamp_for clock ws m.last ≡ Ok t → m.capacity < versions_kept (with_writes depth t ws m) → commit_answer depth clock ws m ≡ Err (store_fault CapacityExceeded)
+refused_beyond depth clock ws m t time lt = ap (if_room depth ws m) time ∙ rw (lt-leb (versions_kept (with_writes depth t ws m)) m.capacity lt) refl
+
+pub accepted_within : (depth clock : ℕ) (ws : List Write) (m : Meaning) (t : ℕ) → timestamp_for clock ws m.last ≡ Ok t → versions_kept (with_writes depth t ws m) ≤ m.capacity → commit_answer depth clock ws m ≡ Ok t
+accepted_within depth clock ws m t time le = ap (if_room depth ws m) time ∙ rw (le-leb (versions_kept (with_writes depth t ws m)) m.capacity le) refl
+
+-- fit writes get a timestamp, where one is to be had
+pub timed : (clock : ℕ) (ws : List Write) (last : ℕ) → fit_writes ws ≡ true → clock < open_end → last + 1 < open_end → (t : ℕ) × (timestamp_for clock ws last ≡ Ok t)
+timed clock ws last fit low left = (max clock (last + 1), rw (fit, lt-leb open_end clock low, lt-leb open_end (last + 1) left) refl)
+
 -- Timestamps as they are chosen.
 
 pub issued_laws : IssuingLaws issued
@@ -152,6 +179,10 @@ issued_laws = record { fits = λ clock last t e. grind (arith, nat_tests); later
 -- one is the clock reading, if that is later than last
 pub issued_by_clock : (clock last t : ℕ) → issued clock last ≡ Ok t → last < clock → t ≡ clock
 issued_by_clock clock last t e lt = grind (arith, nat_tests)
+
+-- else it is one more than last
+pub issued_by_last : (clock last t : ℕ) → issued clock last ≡ Ok t → clock ≤ last → t ≡ last + 1
+issued_by_last clock last t e le = grind (arith, nat_tests)
 
 -- The calls.
 

@@ -1,6 +1,7 @@
 -- Writes that a commit takes: their keys rise strictly and lie in range, so that each key is written at most once.
-use Rattle.std.proofs.Common.{◌≡◌, ℕ, suc, ◌<◌, ◌≤◌, true, false, ◌&&◌, leb, nat_le, List, [], ◌∷◌, length, None, refl, arith}
-use Rattle.std.specs.List.{AllByRecursion}
+use Rattle.std.proofs.Common.{◌≡◌, ℕ, zero, suc, ◌<◌, ◌≤◌, true, false, ◌&&◌, leb, nat_le, List, [], ◌∷◌, length, Some, None, refl, subst, le_of_suc-le-suc, not-suc-le-zero, arith}
+use Rattle.std.specs.List.{ContainsAt as Has, AllByRecursion}
+use Rattle.std.proofs.ByRecursion.{all-has, All-weaker}
 use Rattle.std.proofs.lemmas.Bool.{and_parts}
 use Rattle.std.proofs.lemmas.Bool.Decides.{nat_tests}
 use Rattle.snapshot.specs.Accounts.{rising_from}
@@ -35,3 +36,32 @@ unwritten_past k [] past below = refl
 unwritten_past k (w ∷ ws) past below =
     let rest = unwritten_past k ws past below.1 in
     grind (arith, nat_tests, below.0)
+
+-- The writes one by one.
+
+rising_least : (least : ℕ) (ws : List Write) → rising_from least ws ≡ true → AllByRecursion (λ w. least ≤ w.key) ws
+rising_least least [] e = tt
+rising_least least (w ∷ ws) e =
+    (grind (arith, nat_tests), All-weaker (λ v. suc w.key ≤ v.key) (λ v. least ≤ v.key) (λ v le. grind (arith, nat_tests)) ws (rising_least (suc w.key) ws (rising_later least w ws e)))
+
+-- each gives its key its value
+pub written_each : (least : ℕ) (ws : List Write) → rising_from least ws ≡ true → (w : Write) → Has ws w → written_to w.key ws ≡ Some w.value
+written_each least [] e w has = absurd (not-suc-le-zero has.1)
+written_each least (v ∷ ws) e w (zero, lt, at) =
+    let P : Write → Type 0 = λ x. written_to x.key (v ∷ ws) ≡ Some x.value in
+    let own : written_to v.key (v ∷ ws) ≡ Some v.value = grind (arith, nat_tests) in
+    subst P (at v) own
+written_each least (v ∷ ws) e w (suc i, lt, at) =
+    let has : Has ws w = (i, le_of_suc-le-suc lt, at) in
+    let rising = rising_later least v ws e in
+    let above : suc v.key ≤ w.key = all-has (λ x. suc v.key ≤ x.key) ws w (rising_least (suc v.key) ws rising) has in
+    let rest = written_each (suc v.key) ws rising w has in
+    grind (arith, nat_tests)
+
+-- and no other key is written
+pub unwritten : (k : ℕ) (ws : List Write) → AllByRecursion (λ w. w.key ≡ k → ⊥) ws → written_to k ws ≡ None
+unwritten k [] other = refl
+unwritten k (w ∷ ws) other =
+    let rest = unwritten k ws other.1 in
+    let no = other.0 in
+    grind (arith, nat_tests)

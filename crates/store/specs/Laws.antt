@@ -1,13 +1,13 @@
 -- What holds of every store after any calls on a new one, told by what was ever committed.
-use Rattle.std.specs.Prelude.{◌≡◌, ℕ, ◌+◌, ◌<◌, ◌≤◌, min, true, List, [], ◌∷◌, ◌++◌, length, Some, None, Ok, Err, Option, slice_index_or}
+use Rattle.std.specs.Prelude.{◌≡◌, ℕ, ◌+◌, ◌<◌, ◌≤◌, min, true, List, [], ◌∷◌, ◌++◌, length, filter, Some, None, Ok, Err, Option, nat_lt, slice_index_or, is_ok}
 use Rattle.std.specs.Result.{result_ok}
 use Rattle.std.specs.List.{ContainsAt as Has, AllByRecursion}
-use Rattle.snapshot.specs.Limits.{key_count, is_key, is_time, is_timestamp}
+use Rattle.snapshot.specs.Limits.{open_end, key_count, is_key, is_time, is_timestamp}
 use Rattle.snapshot.specs.declared.account.Reading.{Reading}
 use Rattle.snapshot.specs.declared.account.Write.{Write}
-use Rattle.snapshot.specs.declared.fault.Refusal.TheVariants.{VersionGone}
+use Rattle.snapshot.specs.declared.fault.Refusal.TheVariants.{CapacityExceeded, VersionGone}
 use Rattle.store.specs.Calls.{store_answers}
-use Rattle.store.specs.Meaning.{Meaning, Issuing, version_of, new_store, version_answer, commit_answer, written_to, versions_kept, query_fault}
+use Rattle.store.specs.Meaning.{Meaning, Issuing, version_of, new_store, version_answer, fit_writes, commit_answer, after_commit, after_prune, written_to, versions_kept, query_fault, store_fault}
 use Rattle.store.specs.declared.calls.StoreAnswer.{StoreAnswer}
 use Rattle.store.specs.declared.calls.StoreAnswer.TheVariants as answer
 use Rattle.store.specs.declared.calls.StoreCall.{StoreCall}
@@ -30,20 +30,20 @@ versions_of (Some t) None = []
 versions_of (Some t) (Some x) = version_of t x ∷ []
 
 -- the version that a call gave a key: only an accepted commit gives one, to the keys it writes
-abbrev pub given_by : StoreCall → StoreAnswer → ℕ → List Version
-given_by call.Last a k = []
-given_by (call.Version j s) a k = []
-given_by (call.Commit c ws) a k = versions_of (timestamp_in a) (written_to k ws.now)
-given_by (call.Prune h) a k = []
+abbrev pub versions_from_call : StoreCall → StoreAnswer → ℕ → List Version
+versions_from_call call.Last a k = []
+versions_from_call (call.Version j s) a k = []
+versions_from_call (call.Commit c ws) a k = versions_of (timestamp_in a) (written_to k ws.now)
+versions_from_call (call.Prune h) a k = []
 
-abbrev pub given_by_all : List StoreCall → List StoreAnswer → ℕ → List Version
-given_by_all [] bs k = []
-given_by_all (c ∷ cs) [] k = []
-given_by_all (c ∷ cs) (b ∷ bs) k = given_by c b k ++ given_by_all cs bs k
+abbrev pub versions_from_calls : List StoreCall → List StoreAnswer → ℕ → List Version
+versions_from_calls [] bs k = []
+versions_from_calls (c ∷ cs) [] k = []
+versions_from_calls (c ∷ cs) (b ∷ bs) k = versions_from_call c b k ++ versions_from_calls cs bs k
 
 -- all that a key ever had, oldest first: value 0 at time 0, then what the calls gave it, told from calls and answers alone
-abbrev pub ever_had : List StoreCall → List StoreAnswer → ℕ → List Version
-ever_had calls answers k = version_of 0 0 ∷ given_by_all calls answers k
+abbrev pub all_versions : List StoreCall → List StoreAnswer → ℕ → List Version
+all_versions calls answers k = version_of 0 0 ∷ versions_from_calls calls answers k
 
 -- What the laws speak of.
 
@@ -101,13 +101,44 @@ pub record IssuingLaws (issue : Issuing) : Type 0 where
   pub fits : (clock last t : ℕ) → issue clock last ≡ Ok t → is_timestamp t ≡ true
   pub later : (clock last t : ℕ) → issue clock last ≡ Ok t → last < t
 
--- a commit that was accepted with this timestamp, where the keys ever had these versions
-pub record CommitLaw (m : Meaning) (ever : ℕ → List Version) (clock t : ℕ) : Type 0 where
+-- one key that an accepted commit writes: what is kept of it before and after, and its new version
+pub record WrittenLaw (depth : ℕ) (before after : List Version) (new : Version) : Type 0 where
+  -- the new version is the newest
+  pub newest : (older : List Version) × (after ≡ older ++ (new ∷ []))
+  -- of what was kept, oldest first, and the new version, the oldest may be gone, and nothing else
+  pub oldest_first : (gone : List Version) × (before ++ (new ∷ []) ≡ gone ++ after)
+  -- a version is dropped only where the key then has as many as the depth, all newer
+  pub beyond_depth : (v : Version) → Has before v → (Has after v → ⊥) → (length after ≡ depth) × AllByRecursion (λ w. v.timestamp < w.timestamp) after
+
+-- a commit of these writes that was accepted with this timestamp, where the keys ever had these versions; `after` is the
+-- meaning that it leaves
+pub record CommitLaw (depth : ℕ) (m after : Meaning) (ever : ℕ → List Version) (clock : ℕ) (ws : List Write) (t : ℕ) : Type 0 where
   -- it is later than everything before it
   pub after_last : m.last < t
   pub after_all : (k : ℕ) → is_key k ≡ true → AllByRecursion (λ v. v.timestamp < t) (ever k)
   -- it is the clock reading, if that is later than last
   pub by_clock : m.last < clock → t ≡ clock
+  -- else it is one more than last
+  pub by_last : clock ≤ m.last → t ≡ m.last + 1
+  -- it is the last timestamp from then on
+  pub new_last : after.last ≡ t
+  -- each key that is written gets the value at that timestamp
+  pub of_written : (w : Write) → Has ws w → WrittenLaw depth (m.kept w.key) (after.kept w.key) (version_of t w.value)
+  -- no other key changes
+  pub of_others : (k : ℕ) → AllByRecursion (λ w. w.key ≡ k → ⊥) ws → after.kept k ≡ m.kept k
+
+-- how many versions more these writes make: one for each key that keeps fewer than the depth
+abbrev pub versions_gained : ℕ → List Write → Meaning → ℕ
+versions_gained depth ws m = length (filter (λ w. nat_lt (length (m.kept w.key)) depth) ws)
+
+-- one key of a store that is pruned at h: what is kept of it before and after
+pub record PruneLaw (h last : ℕ) (before after : List Version) : Type 0 where
+  -- a version is dropped where a newer one of the key is above neither h nor last
+  pub outdated : (v w : Version) → Has before v → Has before w → v.timestamp < w.timestamp → w.timestamp ≤ min h last → Has after v → ⊥
+  -- and only there
+  pub only_outdated : (v : Version) → Has before v → (Has after v → ⊥) → (w : Version) × Has before w × (v.timestamp < w.timestamp) × (w.timestamp ≤ min h last)
+  -- what stays keeps its order, and nothing is added
+  pub oldest_first : (gone : List Version) × (before ≡ gone ++ after)
 
 -- a store of this depth and capacity, where the keys ever had these versions
 pub record StoreLaw (depth capacity : ℕ) (m : Meaning) (ever : ℕ → List Version) : Type 0 where
@@ -115,9 +146,20 @@ pub record StoreLaw (depth capacity : ℕ) (m : Meaning) (ever : ℕ → List Ve
   pub within_capacity : versions_kept m ≤ capacity
   pub within_depth : (k : ℕ) → is_key k ≡ true → length (m.kept k) ≤ depth
   pub of_keys : (k : ℕ) → is_key k ≡ true → KeyLaw m (ever k) k
-  pub of_commits : (clock : ℕ) (ws : List Write) (t : ℕ) → commit_answer depth clock ws m ≡ Ok t → CommitLaw m ever clock t
+  -- a commit that is accepted
+  pub of_commits : (clock : ℕ) (ws : List Write) (t : ℕ) → commit_answer depth clock ws m ≡ Ok t → CommitLaw depth m (after_commit depth clock ws m) ever clock ws t
+  -- a commit that is refused for want of room would have left more versions than the capacity
+  pub no_room : (clock : ℕ) (ws : List Write) → commit_answer depth clock ws m ≡ Err (store_fault CapacityExceeded) → capacity < versions_kept m + versions_gained depth ws m
+  -- one that would, of fit writes and with a timestamp to be had, is refused so
+  pub no_more : (clock : ℕ) (ws : List Write) → fit_writes ws ≡ true → clock < open_end → m.last + 1 < open_end → capacity < versions_kept m + versions_gained depth ws m → commit_answer depth clock ws m ≡ Err (store_fault CapacityExceeded)
+  -- and any other one is accepted
+  pub room : (clock : ℕ) (ws : List Write) → fit_writes ws ≡ true → clock < open_end → m.last + 1 < open_end → versions_kept m + versions_gained depth ws m ≤ capacity → is_ok (commit_answer depth clock ws m) ≡ true
+  -- a prune
+  pub of_prunes : (h k : ℕ) → is_key k ≡ true → PruneLaw h m.last (m.kept k) ((after_prune h m).kept k)
+  -- and last stays in a prune
+  pub same_last : (h : ℕ) → (after_prune h m).last ≡ m.last
 
 -- a store that was new before these calls, of any capacity from 64 on, keeps the laws after them
 abbrev pub KeepsLaws : ℕ → List StoreCall → Meaning → Meaning → Type 0
 KeepsLaws depth calls before after =
-    (capacity : ℕ) → key_count ≤ capacity → before ≡ new_store capacity → StoreLaw depth capacity after (ever_had calls (store_answers depth calls before))
+    (capacity : ℕ) → key_count ≤ capacity → before ≡ new_store capacity → StoreLaw depth capacity after (all_versions calls (store_answers depth calls before))

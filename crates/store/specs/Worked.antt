@@ -8,7 +8,7 @@ use Rattle.snapshot.specs.declared.account.Write.{Write}
 use Rattle.snapshot.specs.declared.fault.Fault.{Fault}
 use Rattle.snapshot.specs.declared.fault.Refusal.{Refusal}
 use Rattle.snapshot.specs.declared.interval.Interval.{Interval}
-use Rattle.store.specs.Meaning.{Meaning, version_of, version_answer, timestamp_for, after_prune}
+use Rattle.store.specs.Meaning.{Meaning, version_of, version_answer, commit_answer, after_prune}
 
 -- what a case comes to
 pub data CaseOutcome : Type 0 where
@@ -45,15 +45,15 @@ abbrev read_outcome : Result Reading Fault → CaseOutcome
 read_outcome (Ok r) = current r.timestamp r.promise
 read_outcome (Err f) = refused (refusal_number f.refusal)
 
--- a commit of one write at this clock reading, to a store with this last timestamp
-abbrev commits : ℕ → ℕ → CaseOutcome
-commits clock last =
-    let w : Write = record { key = 0; value = 1 } in
-    commit_outcome (timestamp_for clock (w ∷ []) last)
+-- a store of depth 16 with this last timestamp that keeps of every key versions at 0, 10 and 30
+abbrev three_versions : ℕ → Meaning
+three_versions last = record { last = last; capacity = 1024; kept = λ k. version_of 0 0 ∷ version_of 10 1 ∷ version_of 30 2 ∷ [] }
 
--- a store with last 45 that keeps of every key versions at 0, 10 and 30
-abbrev three_versions : Meaning
-three_versions = record { last = 45; capacity = 1024; kept = λ k. version_of 0 0 ∷ version_of 10 1 ∷ version_of 30 2 ∷ [] }
+-- a commit of one write at this clock reading
+abbrev commits : ℕ → Meaning → CaseOutcome
+commits clock m =
+    let w : Write = record { key = 0; value = 1 } in
+    commit_outcome (commit_answer 16 clock (w ∷ []) m)
 
 abbrev queries : Meaning → ℕ → CaseOutcome
 queries m s = read_outcome (version_answer m 0 s)
@@ -76,10 +76,10 @@ worked_cases =
     ∷ case (narrows 121 130) apart
     ∷ case (joins (from_to 10 20) (from_to 20 30)) (interval 20 20)
     ∷ case (joins (from_to 10 20) (from_to 21 30)) (refused 6)
-    ∷ case (commits 100 99) (committed_at 100)
-    ∷ case (commits 5 100) (committed_at 101)
-    ∷ case (queries three_versions 29) (current 10 29)
-    ∷ case (queries (after_prune 10 three_versions) 9) (refused 15)
+    ∷ case (commits 100 (three_versions 99)) (committed_at 100)
+    ∷ case (commits 5 (three_versions 100)) (committed_at 101)
+    ∷ case (queries (three_versions 45) 29) (current 10 29)
+    ∷ case (queries (after_prune 10 (three_versions 45)) 9) (refused 15)
     ∷ []
 
 -- every case of the table, of which there are n, comes out as it should

@@ -1,8 +1,10 @@
 // What every store checks before it looks at its versions: the key and time of a question, the writes and clock reading
 // of a commit.
-ghost use Rattle.std.specs.Prelude.{◌≡◌};
+ghost use Rattle.std.specs.Prelude.{◌≡◌, ◌+◌, ◌<◌, ◌≤◌, max, true, Err, IfOk, is_ok};
+ghost use Rattle.snapshot.specs.Limits.{open_end};
+ghost use Rattle.snapshot.specs.declared.fault.Refusal.TheVariants.{ClockTooHigh, NoTimeLeft};
 ghost use Rattle.store.specs.Checking.{Checked};
-ghost use Rattle.store.specs.Meaning.{fit_writes, issued, in_range};
+ghost use Rattle.store.specs.Meaning.{fit_writes, issued, in_range, store_fault};
 
 use crate::update::Update;
 use snapshot::account::Write;
@@ -28,9 +30,14 @@ pub fn are_fit(writes: &[Write]) -> bool
     1 <= writes.len() && writes.len() <= WRITE_KEYS && are_rising(writes)
 }
 
-// The timestamp of a commit: the clock reading, or one more than the last timestamp if that is larger.
+// The timestamp of a commit: the clock reading, or one more than the last timestamp if that is larger. Refused (12) for a
+// clock reading of 2^48 or more, else (13) where the last timestamp is 2^48 - 1 or more.
 pub fn issue(clock: u64, last: u64) -> Result<u64, Fault>
-    ensures { result ≡ issued clock last }
+    ensures value { result ≡ issued clock last }
+    ensures timestamp { IfOk result (λ t. t ≡ max clock (last + 1)) }
+    ensures too_high { open_end ≤ clock → result ≡ Err (store_fault ClockTooHigh) }
+    ensures no_time { clock < open_end → open_end ≤ last + 1 → result ≡ Err (store_fault NoTimeLeft) }
+    ensures accepted { clock < open_end → last + 1 < open_end → is_ok result ≡ true }
 {
     if clock >= OPEN_END {
         return Err(Fault::unnamed(Refusal::ClockTooHigh, Layer::Store));
