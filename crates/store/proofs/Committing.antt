@@ -30,10 +30,10 @@ module _ (depth : ℕ) (deep : 1 ≤ depth) (kept : List Version) (v : Version) 
   beyond u has gone =
       let there : Has all u = has_append_left kept (v ∷ []) u has in
       let full : depth < length all =
-          ⊎_elim
-          (λ lt. lt)
-          (λ le. let none : over ≡ 0 = omega arith in absurd (gone (subst (λ n. Has (drop n all) u) (sym none) there)))
-          (cases_lt depth (length all)) in
+      ⊎_elim
+      (λ lt. lt)
+      (λ le. let none : over ≡ 0 = omega arith in absurd (gone (subst (λ n. Has (drop n all) u) (sym none) there)))
+      (cases_lt depth (length all)) in
       (simp length-drop (omega arith), dropped_older over all (rises_push kept v rises before) u there gone)
 
   pub written_law : WrittenLaw depth kept (newest depth all) v

@@ -115,15 +115,15 @@ module _ (depth capacity : ℕ) (m : Meaning) (ever : ℕ → List Version) (sta
       let P : Meaning → Type 0 = λ after. CommitLaw depth m after ever clock ws t in
       let left : after_commit depth clock ws m ≡ with_writes depth t ws m = ap (committed depth ws m) e in
       let law : P (with_writes depth t ws m) =
-          record {
-            after_last = a.after_last;
-            after_all = λ k key. before_of t k a.after_last key;
-            by_clock = issued_by_clock clock m.last t time;
-            by_last = issued_by_last clock m.last t time;
-            new_last = refl;
-            of_written = written_of ws t (accepted_fit issued depth clock ws m t e) a.after_last;
-            of_others = λ k other. ap (λ o. kept_with depth t o (m.kept k)) (unwritten k ws other);
-          } in
+      record {
+        after_last = a.after_last;
+        after_all = λ k key. before_of t k a.after_last key;
+        by_clock = issued_by_clock clock m.last t time;
+        by_last = issued_by_last clock m.last t time;
+        new_last = refl;
+        of_written = written_of ws t (accepted_fit issued depth clock ws m t e) a.after_last;
+        of_others = λ k other. ap (λ o. kept_with depth t o (m.kept k)) (unwritten k ws other);
+      } in
       subst P (sym left) law
 
   -- how many versions fit writes would leave

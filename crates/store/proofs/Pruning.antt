@@ -49,10 +49,10 @@ newer_kept h (x ∷ vs) r v has gone =
     let Newer : Type 0 = (w : Version) × Has (x ∷ vs) w × (v.timestamp < w.timestamp) × (w.timestamp ≤ h) in
     cond_both (some_up_to h vs) (suc (outdated h vs)) 0 (λ n. (Has (drop n (x ∷ vs)) v → ⊥) → Newer)
     (λ e gone.
-        first_or_later Newer x vs v
-        (λ same. let found = some_found h vs e in (found.0, has_behind x vs found.0 found.1, omega (arith, ap (λ y. y.timestamp) same, all-has (λ u. x.timestamp < u.timestamp) vs found.0 r.0 found.1), found.2))
-        (λ later. let rest = newer_kept h vs r.1 v later gone in (rest.0, has_behind x vs rest.0 rest.1, rest.2, rest.3))
-        has)
+    first_or_later Newer x vs v
+    (λ same. let found = some_found h vs e in (found.0, has_behind x vs found.0 found.1, omega (arith, ap (λ y. y.timestamp) same, all-has (λ u. x.timestamp < u.timestamp) vs found.0 r.0 found.1), found.2))
+    (λ later. let rest = newer_kept h vs r.1 v later gone in (rest.0, has_behind x vs rest.0 rest.1, rest.2, rest.3))
+    has)
     (λ e gone. absurd (gone has))
     gone
 
