@@ -1,5 +1,5 @@
 -- A prune: which versions of a key it drops, in the order of their timestamps.
-use Rattle.std.proofs.Common.{◌≡◌, ℕ, zero, suc, ◌<◌, ◌≤◌, min, true, false, leb, List, [], ◌∷◌, ◌++◌, get_or, take, drop, sym, refl, ap, ⊎_elim, le_of_suc-le-suc, not-suc-le-zero, arith}
+use Rattle.std.proofs.Common.{◌≡◌, ℕ, zero, suc, ◌<◌, ◌≤◌, min, true, false, List, [], ◌∷◌, take, drop, sym, refl, ap, ⊎_elim, le_of_suc-le-suc, not-suc-le-zero, arith}
 use Rattle.std.specs.List.{ContainsAt as Has, AllByRecursion}
 use Rattle.std.proofs.ByRecursion.{All-drop, all-has, All-weaker}
 use Rattle.std.proofs.lemmas.Bool.{cases_lt, cond_both, lt-leb}

@@ -142,21 +142,25 @@ pub record PruneLaw (h last : ℕ) (before after : List Version) : Type 0 where
 
 -- a store of this depth and capacity, where the keys ever had these versions
 pub record StoreLaw (depth capacity : ℕ) (m : Meaning) (ever : ℕ → List Version) : Type 0 where
+  -- the capacity stays
   pub same_capacity : m.capacity ≡ capacity
+  -- all keys together keep no more versions than that
   pub within_capacity : versions_kept m ≤ capacity
+  -- a key keeps no more than the depth
   pub within_depth : (k : ℕ) → is_key k ≡ true → length (m.kept k) ≤ depth
+  -- what holds of each key
   pub of_keys : (k : ℕ) → is_key k ≡ true → KeyLaw m (ever k) k
-  -- a commit that is accepted
+  -- what a commit that is accepted leaves
   pub of_commits : (clock : ℕ) (ws : List Write) (t : ℕ) → commit_answer depth clock ws m ≡ Ok t → CommitLaw depth m (after_commit depth clock ws m) ever clock ws t
   -- a commit that is refused for want of room would have left more versions than the capacity
   pub no_room : (clock : ℕ) (ws : List Write) → commit_answer depth clock ws m ≡ Err (store_fault CapacityExceeded) → capacity < versions_kept m + versions_gained depth ws m
-  -- one that would, of fit writes and with a timestamp to be had, is refused so
+  -- a commit of fit writes that could have a timestamp is refused so where it would leave more
   pub no_more : (clock : ℕ) (ws : List Write) → fit_writes ws ≡ true → clock < open_end → m.last + 1 < open_end → capacity < versions_kept m + versions_gained depth ws m → commit_answer depth clock ws m ≡ Err (store_fault CapacityExceeded)
-  -- and any other one is accepted
+  -- and else it is accepted
   pub room : (clock : ℕ) (ws : List Write) → fit_writes ws ≡ true → clock < open_end → m.last + 1 < open_end → versions_kept m + versions_gained depth ws m ≤ capacity → is_ok (commit_answer depth clock ws m) ≡ true
-  -- a prune
+  -- what a prune leaves of each key
   pub of_prunes : (h k : ℕ) → is_key k ≡ true → PruneLaw h m.last (m.kept k) ((after_prune h m).kept k)
-  -- and last stays in a prune
+  -- last stays in a prune
   pub same_last : (h : ℕ) → (after_prune h m).last ≡ m.last
 
 -- a store that was new before these calls, of any capacity from 64 on, keeps the laws after them
