@@ -9,7 +9,7 @@ use Rattle.engine_model.specs.Engines.{Notices}
 use Rattle.engine_model.specs.Notices.{notice_of, raise, raise_below, raise_all}
 
 module _ (holder : ℕ → Bool) (t : ℕ) (w : Write) (n : ℕ) (first now : Notices) (e : now ≡ raise_below holder t w n first) where
-  -- a worker that holds the key is told
+  -- a worker that holds the key is notified
   pub one_is_notified : holder n ≡ true → raise (notice_of t w n) now ≡ raise_below holder t w (n + 1) first
   one_is_notified h =
       ap (raise (notice_of t w n)) e

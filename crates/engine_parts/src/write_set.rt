@@ -1,14 +1,14 @@
 // A leg's write set: at most eight writes in rising order of their keys, one for a key.
-ghost use Rattle.std.specs.Prelude.{◌≡◌, ◌≤◌, [], length, nat_le, OnOk, OnErr};
-ghost use Rattle.std.specs.List.{position_or_len};
+ghost use Rattle.std.specs.Prelude.{◌≡◌, ◌≤◌, [], length, OnOk, OnErr};
 ghost use Rattle.std.specs.Result.{result_and, result_map_both};
 ghost use Rattle.store.specs.Meaning.{written_to};
-ghost use Rattle.engine_model.specs.WriteSets.{with_write, united};
+ghost use Rattle.engine_model.specs.WriteSets.{place_by_order, with_write, united};
 ghost use Rattle.engine_parts.specs.WriteSets.{writes_of, fit_or_refused};
 
 use crate::list::BoundedList;
 use snapshot::account::Write;
 use snapshot::fault::Refusal;
+use snapshot::find::find;
 use snapshot::limits::WRITE_KEYS;
 
 // The writes. `write` alone puts one in, where its key belongs.
@@ -42,29 +42,32 @@ impl WriteSet {
         self.writes.with_key(key).map(|held| held.value)
     }
 
-    // The place of the first write to this key or a higher one, or past the last where there is none.
-    fn place_of(&self, key: u8) -> usize
-        ensures { result ≡ position_or_len (λ held. nat_le key held.key) (writes_of self.now) }
+    // The place of the first write to a higher key, or past the last where there is none.
+    fn place_by_order(&self, key: u8) -> usize
+        ensures { result ≡ place_by_order key (writes_of self.now) }
     {
         let writes = self.as_slice();
         writes
             .iter()
-            .position(|held| key <= held.key)
+            .position(|held| key < held.key)
             .unwrap_or(writes.len())
     }
 
-    // Makes a write, which takes the place of one to the same key. Refused where the set would pass eight keys.
+    // Makes a write, which takes the place of the first one to its key, or where there is none goes before the first write to
+    // a higher key. Refused where the set would pass eight keys.
     pub fn write(&mut self, write: Write) -> Result<(), Refusal>
         ensures answer { result ≡ result_and (fit_or_refused (with_write write (writes_of self.old))) (Ok tt) }
         ensures after { OnOk result (writes_of self.new ≡ with_write write (writes_of self.old)) }
         ensures unchanged { OnErr result (self.new ≡ self.old) }
     {
-        let place = self.place_of(write.key);
-        let there = self.writes.get(place);
-        if there.is_some_and(|held| held.key == write.key) {
-            self.writes.put(place, write);
-        } else if !self.writes.insert(place, write) {
-            return Err(Refusal::WriteSetFull);
+        match find(self.as_slice(), write.key) {
+            Some(place) => self.writes.put(place, write),
+            None => {
+                let place = self.place_by_order(write.key);
+                if !self.writes.insert(place, write) {
+                    return Err(Refusal::WriteSetFull);
+                }
+            }
         }
         Ok(())
     }
