@@ -1,10 +1,9 @@
 -- What moving the items of an array does to its first ones, and the first entry that passes a test.
-use Rattle.std.proofs.Common.{◌≡◌, ℕ, suc, ◌+◌, ◌-◌, ◌<◌, ◌≤◌, min, Bool, true, false, cond, List, [], ◌∷◌, ◌++◌, length, take, drop, set, get_or, add-one, ⊎_elim, Some, None, Option, refl, sym, ap, ◌∙◌, arith}
+use Rattle.std.proofs.Common.{◌≡◌, ℕ, suc, ◌+◌, ◌-◌, ◌<◌, ◌≤◌, min, Bool, true, false, cond, List, [], ◌∷◌, ◌++◌, length, take, drop, set, add-one, Some, None, Option, refl, sym, ap, ◌∙◌, arith}
 use Rattle.std.specs.List.{slice_get, find, remove, insert, copy_within}
 use Rattle.std.specs.Option.{option_map, option_and_then}
 use Rattle.std.proofs.lemmas.List.{append_assoc, length-take, length-drop, length-take-le, take_min, take_more_set, drop-take, drop_min, take-take, set-append_left}
 use Rattle.std.proofs.lemmas.List.Edits.{take-paste}
-use Rattle.std.proofs.lemmas.Option.{slice_get_cases}
 use Rattle.std.proofs.Math.Seq.{take-set-lt}
 use Rattle.snapshot.specs.Finding.{first_with}
 
@@ -56,15 +55,20 @@ module _ {X : Type 0} where
       ∙ ap (λ ys. take i xs ++ x ∷ ys) (sym (drop_of_front i n xs le))
       ∙ ap (λ ys. ys ++ x ∷ drop i (take n xs)) (sym (take-take i n xs le))
 
-  -- an item is put in the front, and later ones move down
-  pub moved_down :
-      (xs : List X) (n k i : ℕ) (x : X) → k ≡ length (take n xs) → i ≤ k → k < length xs →
-      take (k + 1) (set (copy_within xs i k (i + 1)) i x) ≡ insert (take n xs) i x
-  moved_down xs n k i x e le lt = down xs k i x le lt ∙ ap (λ ys. insert ys i x) (whole_front xs n k e)
-
   -- past the end is at the end
-  pub at_the_end : (xs : List X) (i : ℕ) (x : X) → insert xs (min i (length xs)) x ≡ insert xs i x
+  at_the_end : (xs : List X) (i : ℕ) (x : X) → insert xs (min i (length xs)) x ≡ insert xs i x
   at_the_end xs i x = ap (λ ys. ys ++ x ∷ drop (min i (length xs)) xs) (take_min i xs) ∙ ap (λ ys. take i xs ++ x ∷ ys) (drop_min i xs)
+
+  -- an item is put in the front, or at its end, and later ones move down
+  pub inserted_there :
+      (xs : List X) (n k i at : ℕ) (x : X) → k ≡ length (take n xs) → at ≡ min i k → k < length xs →
+      take (k + 1) (set (copy_within xs at k (at + 1)) at x) ≡ insert (take n xs) i x
+  inserted_there xs n k i at x e is lt =
+      let there : at ≡ min i (length (take n xs)) = is ∙ ap (min i) e in
+      down xs k at x (omega arith) lt
+      ∙ ap (λ ys. insert ys at x) (whole_front xs n k e)
+      ∙ ap (λ j. insert (take n xs) j x) there
+      ∙ at_the_end (take n xs) i x
 
   -- the place of the first that passes leads to it
   found : (test : X → Bool) (xs : List X) → option_and_then (slice_get xs) (first_with test xs) ≡ find test xs
@@ -83,10 +87,3 @@ module _ {X : Type 0} where
 
   pub leads_to_it : (test : X → Bool) (xs : List X) (i : ℕ) → first_with test xs ≡ Some i → slice_get xs i ≡ find test xs
   leads_to_it test xs i e = ap (option_and_then (slice_get xs)) (sym e) ∙ found test xs
-
-  pub something_there : (xs : List X) (i : ℕ) → i < length xs → slice_get xs i ≡ None → ⊥
-  something_there xs i lt e =
-      ⊎_elim
-      (λ (there : (x : X) × (i < length xs) × (slice_get xs i ≡ Some x) × (get_or xs i x ≡ x)). absurd (cc (there.2)))
-      (λ (past : (length xs ≤ i) × (slice_get xs i ≡ None)). omega arith)
-      (slice_get_cases xs i).1

@@ -16,7 +16,7 @@ use Rattle.engine_parts.specs.WriteSets.{fit_or_refused}
 -- A look-up.
 
 -- the first write to a key gives its value
-pub value_found : (k : ℕ) (ws : List Write) → option_map (λ w. w.value) (find (λ w. w.key == k) ws) ≡ written_to k ws
+pub value_found : (k : ℕ) (ws : List Write) → written_to k ws ≡ option_map (λ w. w.value) (find (λ w. w.key == k) ws)
 value_found k [] = refl
 value_found k (w ∷ ws) = let rest = value_found k ws in grind (arith, nat_tests)
 

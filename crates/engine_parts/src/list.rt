@@ -56,6 +56,7 @@ impl<T: Copy, const N: usize> BoundedList<T, N> {
     }
 
     // The first entry with this key, if there is one.
+    #[tactic(auto, using(crate::proofs::ListProofs::leads_nowhere, crate::proofs::ListProofs::leads_to_it))]
     pub fn with_key<K: Copy>(&self, key: K) -> Option<T>
     where
         T: Keyed<K>,
@@ -71,16 +72,17 @@ impl<T: Copy, const N: usize> BoundedList<T, N> {
         ensures after { elements_of self.new ≡ (if result then elements_of self.old ++ entry ∷ [] else elements_of self.old) }
         ensures unchanged { result ≡ false → self.new ≡ self.old }
     {
-        let len = self.len();
-        let room = !self.is_full();
-        if room {
-            self.items[len] = entry;
-            self.len = len + 1;
+        if self.is_full() {
+            return false;
         }
-        room
+        let len = self.len();
+        self.items[len] = entry;
+        self.len = len + 1;
+        true
     }
 
     // Puts an entry in the place of another; past the end it has no effect.
+    #[tactic(auto, using(crate::proofs::ListProofs::put_in_front))]
     pub fn put(&mut self, place: usize, entry: T)
         ensures { elements_of self.new ≡ slice_set (elements_of self.old) place entry }
     {
@@ -90,6 +92,7 @@ impl<T: Copy, const N: usize> BoundedList<T, N> {
     }
 
     // Takes out the entry at this place, and later ones move up; past the end it has no effect.
+    #[tactic(auto, using(crate::proofs::ListProofs::moved_up))]
     pub fn remove(&mut self, place: usize)
         ensures { elements_of self.new ≡ remove (elements_of self.old) place }
     {
@@ -101,19 +104,20 @@ impl<T: Copy, const N: usize> BoundedList<T, N> {
     }
 
     // Puts an entry before the one at this place, or at the end where there is none, and answers whether there was room.
+    #[tactic(auto, using(crate::proofs::ListProofs::inserted_there))]
     pub fn insert(&mut self, place: usize, entry: T) -> bool
         ensures room { result ≡ nat_lt (length (elements_of self.old)) N }
         ensures after { elements_of self.new ≡ (if result then insert (elements_of self.old) place entry else elements_of self.old) }
         ensures unchanged { result ≡ false → self.new ≡ self.old }
     {
-        let len = self.len();
-        let room = !self.is_full();
-        if room {
-            let place = place.min(len);
-            self.items.copy_within(place..len, place + 1);
-            self.items[place] = entry;
-            self.len = len + 1;
+        if self.is_full() {
+            return false;
         }
-        room
+        let len = self.len();
+        let place = place.min(len);
+        self.items.copy_within(place..len, place + 1);
+        self.items[place] = entry;
+        self.len = len + 1;
+        true
     }
 }

@@ -36,6 +36,7 @@ impl WriteSet {
     }
 
     // The value that was written to the key, if one was.
+    #[tactic(auto, using(crate::proofs::WriteSetLemmas::value_found))]
     pub fn value_of(&self, key: u8) -> Option<u32>
         ensures { result ≡ written_to key (writes_of self.now) }
     {
