@@ -3,3 +3,4 @@ pub mod Firsts
 pub mod Risings
 pub mod Agreement
 pub mod Overwritten
+pub mod Zeros

@@ -84,10 +84,3 @@ pub record CommonTimes (a : Account) : Type 0 where
   pub some : a.low ≤ a.high
   pub when_in : (s : ℕ) → Lies s (from_to a.low a.high) → AllByRecursion (λ r. Current s r.reading) a.readings
   pub only_in : (s : ℕ) → s ≤ open_end → AllByRecursion (λ r. Current s r.reading) a.readings → Lies s (from_to a.low a.high)
-
--- the reading and the write that are all zeros
-abbrev pub zero_reading : ChainReading
-zero_reading = record { worker = 0; key = 0; reading = record { value = 0; timestamp = 0; promise = 0 } }
-
-abbrev pub zero_write : Write
-zero_write = record { key = 0; value = 0 }

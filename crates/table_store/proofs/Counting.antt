@@ -4,7 +4,7 @@ use Rattle.std.specs.Option.{option_or}
 use Rattle.std.proofs.lemmas.List.{length-map, length_push, length-take, take_more}
 use Rattle.std.proofs.lemmas.List.Sums.{length-filter, count_by-le-length}
 use Rattle.std.proofs.lemmas.Bool.{cases_eq, cond-true, cond-false, cond_both, eq-eqb, ne_eqb, le-leb, lt-leb}
-use Rattle.snapshot.specs.Accounts.{zero_write}
+use Rattle.snapshot.proofs.Zeros.{zero_write}
 use Rattle.snapshot.specs.Limits.{is_key}
 use Rattle.snapshot.specs.declared.account.Write.{Write}
 use Rattle.store.specs.Meaning.{outdated, written_to}

@@ -2,7 +2,7 @@
 use Rattle.std.proofs.Common.{◌<◌, sym, ap, ◌∙◌, arith}
 use Rattle.std.proofs.ByRecursion.{All-get_or}
 use Rattle.std.proofs.lemmas.List.{at_drop_all}
-use Rattle.snapshot.specs.Accounts.{zero_write}
+use Rattle.snapshot.proofs.Zeros.{zero_write}
 use Rattle.snapshot.specs.Limits.{key_count}
 use Rattle.newest_store.specs.Newest.{version_at}
 use Rattle.store.proofs.Writes.{fit_rises, rising_keys}

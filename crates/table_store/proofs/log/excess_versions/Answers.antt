@@ -1,6 +1,6 @@
 -- Each write sets its key's number.
 use Rattle.std.proofs.Common.{◌-◌, get_or, ap, ◌∙◌}
-use Rattle.snapshot.specs.Accounts.{zero_write}
+use Rattle.snapshot.proofs.Zeros.{zero_write}
 use Rattle.table_store.proofs.Counting.{excess_more}
 use Rattle.table_store.specs.PerKeys.{number_for, with}
 use Rattle.table_store.proofs.log.excess_versions.Goals as goal

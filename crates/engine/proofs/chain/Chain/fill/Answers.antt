@@ -1,7 +1,7 @@
 use Rattle.std.proofs.Common.{◌≡◌, map, length, get_or, ap, sym, ◌∙◌, arith}
 use Rattle.std.proofs.Math.ListN.{get_or-map}
 use Rattle.std.proofs.lemmas.List.{length-map}
-use Rattle.snapshot.specs.Accounts.{zero_reading}
+use Rattle.snapshot.proofs.Zeros.{zero_reading}
 use Rattle.snapshot.specs.declared.account.ChainReading.{ChainReading}
 use Rattle.engine_model.specs.declared.records.LegReading.{LegReading}
 use Rattle.engine.specs.Chains.{chain_of}
