@@ -20,14 +20,16 @@ use Rattle.engine_parts.specs.WriteSets.{writes_of}
 use Rattle.engine_parts.specs.declared.notices.Notices.{Notices}
 use Rattle.engine_parts.proofs.ItemLemmas.{item_set}
 use Rattle.engine_model.specs.Engines as model
+use Rattle.engine_model.specs.Replies.{Replies}
 use Rattle.engine_model.specs.Traces.{event}
 use Rattle.engine_model.specs.Rules.{the_rules}
 use Rattle.engine_model.specs.Steps.{answer_in, chain_fault, only_open, step}
 use Rattle.engine_model.specs.declared.calls.Call.TheVariants as call
+use Rattle.engine_model.proofs.ReplyProofs.{replies}
 use Rattle.engine_model.proofs.TraceProofs.{the_rules_lawful}
 use Rattle.engine.specs.ChainCalls.{on_open}
 use Rattle.engine.specs.Chains.{chain_of}
-use Rattle.engine.specs.Commits.{committing_leg, answer_and_lists, given_to_store}
+use Rattle.engine.specs.Commits.{committing_leg, answer_and_lists, account_in, given_to_store}
 use Rattle.engine.specs.Engines.{CallersLists, engine_of}
 use Rattle.engine.specs.Legs.{open_leg_of}
 use Rattle.engine.specs.EngineLaw.{InEveryTrace}
@@ -70,7 +72,13 @@ lists_show rs ws a h lists is =
     let shown_account : Result AccountHead EngineFault × CallersLists → Account = λ t. account_of (head_in h t.0) t.1.0 t.1.1 in
     ap shown_account is ∙ shows rs ws a
 
--- the five numbers of an account that is told so
+pub account_shown :
+    (rs : List ChainReading) (ws : List Write) (q : Result AccountHead EngineFault) (lists : CallersLists) (d : Result Account EngineFault) →
+    (q, lists) ≡ answer_and_lists rs ws d → account_in q lists.0 lists.1 ≡ d
+account_shown rs ws q lists (Ok a) is = ap (λ t. account_in t.0 t.1.0 t.1.1) is ∙ ap Ok (shows rs ws a)
+account_shown rs ws q lists (Err f) is = ap (λ t. account_in t.0 t.1.0 t.1.1) is
+
+-- the five numbers of an account
 pub head_shown :
     (h : AccountHead) (rs : List ChainReading) (ws : List Write) → h.readings ≤ length rs → h.writes ≤ length ws →
     h ≡ head_of (account_of h rs ws)
@@ -150,6 +158,15 @@ module _ (depth p l clock r w : ℕ) (rs : List ChainReading) (ws : List Write) 
   pub for_the_book :
       (q : Result AccountHead EngineFault) (lists : CallersLists) (t : model.Engine) → IsStepped q lists t → IfOk q (IsLawful lists)
   for_the_book q lists t handed = answer_lawful q lists stepped.0 (ap (λ x. x.0) handed) refl
+
+  -- The reply is that of the step.
+
+  pub commit_replies :
+      (q : Result AccountHead EngineFault) (lists : CallersLists) (t : model.Engine) → IsStepped q lists t →
+      Replies (call.Commit p l clock r w) (account_in q lists.0 lists.1)
+  commit_replies q lists t handed =
+      let c = call.Commit p l clock r w in
+      subst (Replies c) (sym (account_shown rs ws q lists stepped.0 (ap (λ x. x.0) handed))) (replies depth c s)
 
 -- The leg that commits.
 

@@ -10,3 +10,4 @@ pub mod CommitLemmas
 pub mod CommitStep
 pub mod PerformLemmas
 pub mod TraceLemmas
+pub mod ReplyLemmas

@@ -1,5 +1,5 @@
 -- A call adds an event to each trace that led to the engine, and the calls of a run make a trace.
-use Rattle.std.proofs.Common.{◌≡◌, ℕ, List, [], ◌∷◌, ◌++◌, map, reverse, Result, refl, sym, ap, subst, ◌∙◌}
+use Rattle.std.proofs.Common.{◌≡◌, ℕ, List, [], ◌∷◌, ◌++◌, map, reverse, take, Result, refl, sym, ap, subst, ◌∙◌}
 use Rattle.std.proofs.lemmas.List.{append_assoc, append-nil, reverse-append}
 use Rattle.snapshot.specs.declared.fault.EngineFault.{EngineFault}
 use Rattle.store.specs.Meaning.{Meaning, new_store}
@@ -75,6 +75,7 @@ module _ (store : NewStore) where
       record {
         answered = sym (answers_of_trace calls (new_engine (new_store store.capacity)) []);
         law = law;
+        at_each_step = λ n. the_rules_lawful.by_calls store (take n calls);
         leads = record {
           by_rules = law.by_rules;
           leaves = left_after_calls calls (new_engine (new_store store.capacity)) [] refl ∙ sym is;

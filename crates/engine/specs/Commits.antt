@@ -1,6 +1,6 @@
 -- Commits: which leg can commit, what the store and the notices make of its writes, and what is handed back to the caller.
 use Rattle.std.specs.Prelude.{ℕ, if◌then◌else◌, ◌&&◌, List, [], ◌∷◌, length, Ok, Err, Result, nat_le}
-use Rattle.snapshot.specs.Accounts.{Account, head_of}
+use Rattle.snapshot.specs.Accounts.{Account, head_of, account_of}
 use Rattle.snapshot.specs.Limits.{leg_count}
 use Rattle.snapshot.specs.Overwriting.{overwritten}
 use Rattle.snapshot.specs.declared.account.AccountHead.{AccountHead}
@@ -40,3 +40,8 @@ abbrev pub answer_and_lists :
     List ChainReading → List Write → Result Account EngineFault → Result AccountHead EngineFault × (List ChainReading × List Write)
 answer_and_lists rs ws (Ok a) = (Ok (head_of a), (overwritten a.readings rs, overwritten a.writes ws))
 answer_and_lists rs ws (Err f) = (Err f, (rs, ws))
+
+-- the account that a commit's answer and its caller's lists tell
+abbrev pub account_in : Result AccountHead EngineFault → List ChainReading → List Write → Result Account EngineFault
+account_in (Ok h) rs ws = Ok (account_of h rs ws)
+account_in (Err f) rs ws = Err f

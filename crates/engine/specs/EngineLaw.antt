@@ -1,5 +1,5 @@
 -- The law of traces, of the engine that runs: what its calls add to a trace, and what is so of every trace that led to it.
-use Rattle.std.specs.Prelude.{◌≡◌, ℕ, List, ◌∷◌, map, reverse, Result}
+use Rattle.std.specs.Prelude.{◌≡◌, ℕ, List, ◌∷◌, map, reverse, take, Result}
 use Rattle.snapshot.specs.declared.fault.EngineFault.{EngineFault}
 use Rattle.store.specs.Meaning.{Meaning, new_store}
 use Rattle.engine_model.specs.Engines.{Engine, new_engine}
@@ -35,6 +35,8 @@ pub record TraceOfRun (store : NewStore) (calls : List Call) (answers : List (Re
   pub answered : answers ≡ reverse (map answered_in (trace_of the_rules store calls))
   -- the trace keeps the law
   pub law : TraceLaw the_rules store (trace_of the_rules store calls)
+  -- and did so at each step: after the first n calls, for every n
+  pub at_each_step : (n : ℕ) → TraceLaw the_rules store (trace_of the_rules store (take n calls))
   -- and led to the engine
   pub leads : LedTo the_rules store (trace_of the_rules store calls) after
 

@@ -2,6 +2,7 @@
 use Rattle.std.specs.Prelude.{ℕ, List, [], ◌∷◌, Ok, Err, Result}
 use Rattle.snapshot.specs.declared.fault.EngineFault.{EngineFault}
 use Rattle.engine_model.specs.Engines.{Engine}
+use Rattle.engine_model.specs.Replies.{Reply, leg, legs, value, account, counts, done, refusal_reply}
 use Rattle.engine_model.specs.Steps.{AnswerTo}
 use Rattle.engine_model.specs.declared.calls.Call.{Call}
 use Rattle.engine_model.specs.declared.calls.Call.TheVariants as call
@@ -28,6 +29,19 @@ as_answer (call.Prune h) u = answer.Done
 abbrev pub as_result : (c : Call) → Result (AnswerTo c) EngineFault → Result Answer EngineFault
 as_result c (Ok x) = Ok (as_answer c x)
 as_result c (Err f) = Err f
+
+-- the reply that an answer given as a value makes
+abbrev pub answer_reply : Answer → Reply
+answer_reply (answer.Leg n) = leg n
+answer_reply (answer.Legs n m) = legs n m
+answer_reply (answer.Value x) = value x
+answer_reply (answer.Count n m) = counts n m
+answer_reply (answer.Account a) = account a
+answer_reply answer.Done = done
+
+abbrev pub result_reply : Result Answer EngineFault → Reply
+result_reply (Ok a) = answer_reply a
+result_reply (Err f) = refusal_reply f
 
 -- what a call answers and leaves, by the rules in force, over a store of this depth
 abbrev pub performed : ℕ → Call → Engine → Result Answer EngineFault × Engine

@@ -11,18 +11,19 @@ ghost use Rattle.snapshot.specs.declared.fault.Layer.TheVariants as layer;
 ghost use Rattle.snapshot.specs.declared.fault.Refusal.TheVariants.{NoSuchNotice};
 ghost use Rattle.engine_model.specs.Caches.{with_notice};
 ghost use Rattle.engine_model.specs.Engines as model;
+ghost use Rattle.engine_model.specs.Replies.{Replies};
 ghost use Rattle.engine_model.specs.Updates.{with_at};
 ghost use Rattle.engine_model.specs.declared.calls.Call.TheVariants as call;
 ghost use Rattle.engine_parts.specs.Caches.{caches_of};
-ghost use Rattle.engine.specs.Commits.{given_to_store};
+ghost use Rattle.engine.specs.Commits.{given_to_store, account_in};
 ghost use Rattle.engine_parts.specs.WaitingNotices.{notices_of};
 ghost use Rattle.engine.specs.Engines.{engine_of, IsStep, IsCommit};
 
 use crate::chain::{Chain, Room};
 use crate::named::Named;
+use engine_model::records::Notice;
 use engine_parts::cache::{CACHES, Cache};
 use engine_parts::notices::Notices;
-use engine_model::records::Notice;
 use snapshot::account::{AccountHead, ChainReading, Write};
 use snapshot::fault::{EngineFault, Fault, Layer, Refusal};
 use snapshot::limits::{PLACES, is_leg, is_worker};
@@ -58,6 +59,7 @@ impl<S: Store> Engine<S> {
     // Refused: 1 place or worker out of range, 2 the place is not free.
     pub fn begin(&mut self, place: u8, worker: u8) -> Result<u8, EngineFault>
         ensures step { IsStep S.Reads.meaning S.Store.depth (call.Begin place worker) self.old result self.new }
+        ensures reply { Replies (call.Begin place worker) result }
         ensures unchanged { OnErr result (self.new ≡ self.old) }
     {
         let named = Named::place(place);
@@ -74,6 +76,7 @@ impl<S: Store> Engine<S> {
     // Refused: 1 place, leg or worker out of range, 3 that leg is not open, 5 sixteen legs have been opened.
     pub fn hand(&mut self, place: u8, leg: u8, worker: u8) -> Result<u8, EngineFault>
         ensures step { IsStep S.Reads.meaning S.Store.depth (call.Hand place leg worker) self.old result self.new }
+        ensures reply { Replies (call.Hand place leg worker) result }
         ensures unchanged { OnErr result (self.new ≡ self.old) }
     {
         let named = Named::leg(place, leg);
@@ -95,6 +98,7 @@ impl<S: Store> Engine<S> {
         second_worker: u8,
     ) -> Result<(u8, u8), EngineFault>
         ensures step { IsStep S.Reads.meaning S.Store.depth (call.Fork place leg first_worker second_worker) self.old result self.new }
+        ensures reply { Replies (call.Fork place leg first_worker second_worker) result }
         ensures unchanged { OnErr result (self.new ≡ self.old) }
     {
         let named = Named::leg(place, leg);
@@ -119,6 +123,7 @@ impl<S: Store> Engine<S> {
         worker: u8,
     ) -> Result<u8, EngineFault>
         ensures step { IsStep S.Reads.meaning S.Store.depth (call.Join place first_leg second_leg worker) self.old result self.new }
+        ensures reply { Replies (call.Join place first_leg second_leg worker) result }
         ensures unchanged { OnErr result (self.new ≡ self.old) }
     {
         let named = Named::leg(place, first_leg);
@@ -136,6 +141,7 @@ impl<S: Store> Engine<S> {
     // for a 33rd reading, 15 the store has dropped the version.
     pub fn read(&mut self, place: u8, leg: u8, key: u8) -> Result<u32, EngineFault>
         ensures step { IsStep S.Reads.meaning S.Store.depth (call.Read place leg key) self.old result self.new }
+        ensures reply { Replies (call.Read place leg key) result }
         ensures unchanged { OnErr result (self.new ≡ self.old) }
     {
         let named = Named { place, leg, key };
@@ -150,6 +156,7 @@ impl<S: Store> Engine<S> {
     // Refused: 1 place, leg or key out of range, 3 that leg is not open, 7 the write set would pass eight keys.
     pub fn write(&mut self, place: u8, leg: u8, key: u8, value: u32) -> Result<(), EngineFault>
         ensures step { IsStep S.Reads.meaning S.Store.depth (call.Write place leg key value) self.old result self.new }
+        ensures reply { Replies (call.Write place leg key value) result }
         ensures unchanged { OnErr result (self.new ≡ self.old) }
     {
         let named = Named { place, leg, key };
@@ -175,6 +182,7 @@ impl<S: Store> Engine<S> {
         writes: &mut [Write],
     ) -> Result<AccountHead, EngineFault>
         ensures step { IsCommit S.Reads.meaning S.Store.depth place leg clock (length readings.old) (length writes.old) self.old (readings.old, writes.old) result (readings.new, writes.new) self.new }
+        ensures reply { Replies (call.Commit place leg clock (length readings.old) (length writes.old)) (account_in result readings.new writes.new) }
         ensures lawful { IfOk result (λ head. InEveryTrace S.Store.depth (engine_of S.Reads.meaning self.old) (λ store trace. lawful (account_of head readings.new writes.new) ≡ true)) }
         ensures unchanged { OnErr result (self.new ≡ self.old) }
         ensures readings_unchanged { OnErr result (readings.new ≡ readings.old) }
@@ -229,6 +237,7 @@ impl<S: Store> Engine<S> {
     // Frees a place. Refused: 1 place out of range, 3 no chain is open there.
     pub fn abandon(&mut self, place: u8) -> Result<(), EngineFault>
         ensures step { IsStep S.Reads.meaning S.Store.depth (call.Abandon place) self.old result self.new }
+        ensures reply { Replies (call.Abandon place) result }
         ensures unchanged { OnErr result (self.new ≡ self.old) }
     {
         let named = Named::place(place);
@@ -244,6 +253,7 @@ impl<S: Store> Engine<S> {
     // Refused: 16 no notice waits at that position.
     pub fn deliver(&mut self, position: u64) -> Result<(), EngineFault>
         ensures step { IsStep S.Reads.meaning S.Store.depth (call.Deliver position) self.old result self.new }
+        ensures reply { Replies (call.Deliver position) result }
         ensures unchanged { OnErr result (self.new ≡ self.old) }
     {
         let Some(notice) = self.notices.get(position) else {
@@ -256,6 +266,7 @@ impl<S: Store> Engine<S> {
     // Removes a waiting notice, and later ones move up. Refused: 16 no notice waits at that position.
     pub fn discard(&mut self, position: u64) -> Result<(), EngineFault>
         ensures step { IsStep S.Reads.meaning S.Store.depth (call.Discard position) self.old result self.new }
+        ensures reply { Replies (call.Discard position) result }
         ensures unchanged { OnErr result (self.new ≡ self.old) }
     {
         let Some(_) = self.notices.get(position) else {
@@ -268,6 +279,7 @@ impl<S: Store> Engine<S> {
     // How many notices wait, and how many were lost.
     pub fn count(&self) -> (usize, u64)
         ensures step { IsStep S.Reads.meaning S.Store.depth call.Count self.now (Ok result) self.now }
+        ensures reply { Replies call.Count (Ok result) }
     {
         self.notices.count()
     }
@@ -276,6 +288,7 @@ impl<S: Store> Engine<S> {
     // timestamp.
     pub fn prune(&mut self, horizon: u64)
         ensures step { IsStep S.Reads.meaning S.Store.depth (call.Prune horizon) self.old (Ok tt) self.new }
+        ensures reply { Replies (call.Prune horizon) (Ok tt) }
     {
         self.store.prune(horizon);
     }

@@ -3,7 +3,8 @@ ghost use Rattle.std.specs.Prelude.{◌≡◌, OnErr};
 ghost use Rattle.engine_model.specs.declared.calls.Call.TheVariants as call;
 ghost use Rattle.engine.specs.Engines.{engine_of, IsStep};
 ghost use Rattle.engine.specs.EngineLaw.{ExtendsTrace, InEveryTrace};
-ghost use Rattle.engine.specs.Performing.{performed};
+ghost use Rattle.engine.specs.Performing.{performed, result_reply};
+ghost use Rattle.engine_model.specs.Replies.{CanReply};
 
 use crate::answer::{Answer, CommittedAccount};
 use crate::chain::Room;
@@ -16,11 +17,13 @@ use snapshot::limits::{CHAIN_READINGS, WRITE_KEYS};
 use store::traits::Store;
 
 impl<S: Store> Engine<S> {
-    // Makes the call. Refused as the call of that name is. Every trace that led to the engine goes on by this call and its
+    // Makes the call. Refused as the call of that name is: its reply is an answer of the call's kind, or one of the refusals that the
+    // table has for the call. Every trace that led to the engine goes on by this call and its
     // answer, and keeps the law of traces.
     pub fn perform(&mut self, call: Call) -> Result<Answer, EngineFault>
         ensures step { (result, engine_of S.Reads.meaning self.new) ≡ performed S.Store.depth call (engine_of S.Reads.meaning self.old) }
         ensures unchanged { OnErr result (self.new ≡ self.old) }
+        ensures reply { CanReply call (result_reply result) }
         ensures law { InEveryTrace S.Store.depth (engine_of S.Reads.meaning self.old) (λ store trace. ExtendsTrace store trace call result (engine_of S.Reads.meaning self.new)) }
     {
         self.dispatch(call)

@@ -15,4 +15,5 @@ pub mod CommitProofs
 pub mod GoneProofs
 pub mod TraceProofs
 pub mod StoreRefusalProofs
+pub mod ReplyProofs
 pub mod ExampleProofs

@@ -102,7 +102,7 @@ module _
 
 -- A trace.
 
-refusals_in : (store : NewStore) (trace : Trace) → ByRules the_rules store trace → StoreRefusals trace
+pub refusals_in : (store : NewStore) (trace : Trace) → ByRules the_rules store trace → StoreRefusals trace
 refusals_in store [] by_rules = record { reads = tt; commits = tt }
 refusals_in store (e ∷ before) by_rules =
     let earlier = refusals_in store before by_rules.1 in

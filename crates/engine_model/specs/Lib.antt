@@ -7,6 +7,7 @@ pub mod Engines
 pub mod Notices
 pub mod Steps
 pub mod Traces
+pub mod Replies
 pub mod CacheShape
 pub mod Law
 pub mod StoreRefusals

@@ -3,6 +3,7 @@ use Rattle.engine_model.proofs.CacheShapeProofs.{cache_shape}
 use Rattle.engine_model.proofs.TraceProofs.{rests_on_laws, the_rules_lawful, timestamps_in_every_trace}
 use Rattle.engine_model.proofs.ShapedTraces.{shaped_in_every_trace}
 use Rattle.engine_model.proofs.StoreRefusalProofs.{refusals_in_every_trace}
+use Rattle.engine_model.proofs.ReplyProofs.{replies_in_every_trace}
 use Rattle.engine_model.proofs.law.trace_law.Goals as goal
 
 pub returns-clause-lawful : goal.returns-clause-lawful
@@ -22,3 +23,6 @@ returns-clause-shaped c = shaped_in_every_trace
 
 pub returns-clause-refusals : goal.returns-clause-refusals
 returns-clause-refusals c = refusals_in_every_trace
+
+pub returns-clause-replies : goal.returns-clause-replies
+returns-clause-replies c = replies_in_every_trace

@@ -1,11 +1,27 @@
-use Rattle.std.proofs.Common.{length}
+use Rattle.std.proofs.Common.{length, subst}
 use Rattle.engine.specs.Engines.{engine_of}
-use Rattle.engine.proofs.CommitLemmas.{for_the_book}
+use Rattle.engine.proofs.CommitLemmas.{IsStepped, commit_replies, for_the_book}
 use Rattle.engine.proofs.engine.Engine.commit.Goals as goal
+
+pub returns-clause-step : goal.returns-clause-step
+returns-clause-step g c =
+    let rs = c.args.readings.now in
+    let ws = c.args.writes.now in
+    subst
+    (λ n. IsStepped g.S.Store.depth n.place n.leg c.args.clock (length rs) (length ws) rs ws (engine_of g.S.Reads.meaning c.args.self.now)
+    c.commit_into.result (c.commit_into.new.readings, c.commit_into.new.writes) (engine_of g.S.Reads.meaning c.commit_into.new.self))
+    c.leg.ensures c.commit_into.ensures.step
+
+pub returns-clause-reply : goal.returns-clause-reply
+returns-clause-reply g c =
+    let rs = c.args.readings.now in
+    let ws = c.args.writes.now in
+    commit_replies g.S.Store.depth c.args.place c.args.leg c.args.clock (length rs) (length ws) rs ws
+    (engine_of g.S.Reads.meaning c.args.self.now) _ _ _ (returns-clause-step g c)
 
 pub returns-clause-lawful : goal.returns-clause-lawful
 returns-clause-lawful g c =
     let rs = c.args.readings.now in
     let ws = c.args.writes.now in
-    for_the_book g.S.Store.depth c.leg.result.place c.leg.result.leg c.args.clock (length rs) (length ws) rs ws
-    (engine_of g.S.Reads.meaning c.args.self.now) _ _ _ c.commit_into.ensures.step
+    for_the_book g.S.Store.depth c.args.place c.args.leg c.args.clock (length rs) (length ws) rs ws
+    (engine_of g.S.Reads.meaning c.args.self.now) _ _ _ (returns-clause-step g c)

@@ -4,6 +4,7 @@ use Rattle.std.proofs.lemmas.Result.{err_from_is_err_and}
 use Rattle.snapshot.specs.Limits.{is_place, is_leg, is_worker}
 use Rattle.snapshot.specs.Refusals.{not_named}
 use Rattle.snapshot.specs.declared.fault.Refusal.TheVariants.{NotOpen}
+use Rattle.engine_model.specs.declared.calls.Call.TheVariants as call
 use Rattle.engine_model.specs.Steps.{chain_fault}
 use Rattle.engine.specs.Chains.{chain_of}
 use Rattle.engine.specs.ChainCalls.{after_hand}
@@ -12,6 +13,7 @@ use Rattle.engine.specs.Naming.{naming, leg_in_range}
 use Rattle.engine.specs.Workers.{worker_number}
 use Rattle.engine.proofs.EngineLemmas.{failed, passed, no_worker, worker_is, stands, called, refused_out, refused_missing}
 use Rattle.engine.proofs.ChainSteps.{hand_is_step}
+use Rattle.engine.proofs.ReplyLemmas.{step_replies}
 use Rattle.engine.proofs.engine.Engine.hand.Goals as goal
 
 pub returns-in_err-check_leg-clause-step : goal.returns-in_err-check_leg-clause-step
@@ -54,3 +56,8 @@ returns-clause-step g c =
     (c.hand.ensures.made
     ∙ ap (λ k. after_hand k w (chain_of chain)) c.leg-named.ensures
     ∙ ap (λ v. after_hand n v (chain_of chain)) worker.1)
+
+pub returns-clause-reply : goal.returns-clause-reply
+returns-clause-reply g c =
+    step_replies g.S.Store.depth (call.Hand c.args.place c.args.leg c.args.worker) (engine_of g.S.Reads.meaning c.args.self.now) _ _
+    (returns-clause-step g c)

@@ -2,11 +2,13 @@ use Rattle.std.proofs.Common.{◌≡◌, ◌<◌, ◌&&◌, true, Some, Err, ref
 use Rattle.std.proofs.lemmas.Bool.Decides.{nat_tests}
 use Rattle.std.proofs.lemmas.Result.{err_from_is_err_and}
 use Rattle.snapshot.specs.Limits.{is_place, is_leg, is_key}
+use Rattle.engine_model.specs.declared.calls.Call.TheVariants as call
 use Rattle.engine.specs.Chains.{chain_of}
 use Rattle.engine.specs.Engines.{engine_of}
 use Rattle.engine.specs.Naming.{naming, key_in_range}
 use Rattle.engine.proofs.EngineLemmas.{failed, passed, stands, called, refused_out, refused_missing}
 use Rattle.engine.proofs.ChainSteps.{write_is_step}
+use Rattle.engine.proofs.ReplyLemmas.{step_replies}
 use Rattle.engine.proofs.engine.Engine.write.Goals as goal
 
 pub returns-in_err-check_key-clause-step : goal.returns-in_err-check_key-clause-step
@@ -37,3 +39,8 @@ returns-clause-step g c =
     called g.S.Reads.meaning e p within c.write.result c.write.new.self _ _
     (write_is_step g.S.Store.depth p c.args.leg c.args.key c.args.value (engine_of g.S.Reads.meaning e) (chain_of chain) range there)
     c.write.ensures.made
+
+pub returns-clause-reply : goal.returns-clause-reply
+returns-clause-reply g c =
+    step_replies g.S.Store.depth (call.Write c.args.place c.args.leg c.args.key c.args.value) (engine_of g.S.Reads.meaning c.args.self.now) _ _
+    (returns-clause-step g c)
