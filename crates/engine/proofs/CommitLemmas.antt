@@ -1,9 +1,9 @@
--- What a commit leaves: its caller's lists, the engine, and that the book takes the account.
+-- What a commit leaves: its caller's lists and the engine; and the law of its account.
 use Rattle.std.proofs.Common.{◌≡◌, ℕ, ◌+◌, ◌<◌, ◌≤◌, true, ◌&&◌, List, [], ◌∷◌, ◌++◌, length, take, set, get_or, IfOk, Some, None, Ok, Err, Option, Result, refl, sym, ap, subst, Bool, false, if◌then◌else◌, nat_le, ◌∙◌, arith}
 use Rattle.std.specs.Option.{option_map}
 use Rattle.std.specs.Result.{result_map_both}
 use Rattle.std.proofs.lemmas.List.{take_more, take_at, length-take-le, set-get_or}
-use Rattle.snapshot.specs.Accounts.{Account, head_of, account_of, lawful}
+use Rattle.snapshot.specs.Accounts.{Account, head_of, account_of}
 use Rattle.snapshot.specs.Limits.{leg_count}
 use Rattle.snapshot.specs.Overwriting.{overwritten}
 use Rattle.snapshot.specs.Refusals.{not_named}
@@ -21,7 +21,8 @@ use Rattle.engine_parts.specs.declared.notices.Notices.{Notices}
 use Rattle.engine_parts.proofs.ItemLemmas.{item_set}
 use Rattle.engine_model.specs.Engines as model
 use Rattle.engine_model.specs.Replies.{Replies}
-use Rattle.engine_model.specs.Traces.{event}
+use Rattle.engine_model.specs.Law.{AccountLaw}
+use Rattle.engine_model.specs.Traces.{event, history_of}
 use Rattle.engine_model.specs.Rules.{the_rules}
 use Rattle.engine_model.specs.Steps.{answer_in, chain_fault, only_open, step}
 use Rattle.engine_model.specs.declared.calls.Call.TheVariants as call
@@ -32,7 +33,7 @@ use Rattle.engine.specs.Chains.{chain_of}
 use Rattle.engine.specs.Commits.{committing_leg, answer_and_lists, account_in, given_to_store}
 use Rattle.engine.specs.Engines.{CallersLists, engine_of}
 use Rattle.engine.specs.Legs.{open_leg_of}
-use Rattle.engine.specs.EngineLaw.{InEveryTrace}
+use Rattle.engine.specs.EngineLaw.{AddsAccount, InEveryTrace}
 use Rattle.engine.specs.Naming.{naming, leg_in_range}
 use Rattle.engine.specs.StepOf.{step_of}
 use Rattle.engine.specs.declared.chain.Chain.{Chain}
@@ -136,28 +137,29 @@ module _ (depth p l clock r w : ℕ) (rs : List ChainReading) (ws : List Write) 
       let Q : model.Engine → (Result AccountHead EngineFault × CallersLists) × model.Engine = λ u. (answer_and_lists rs ws (Ok a), u) in
       ap P is ∙ ap Q left ∙ ap stepped_for_caller stepped_so
 
-  -- The book takes the account, in every trace that led to the engine.
+  -- The account keeps its law, in every trace that led to the engine.
 
-  account_lawful : (a : Account) → stepped.0 ≡ Ok a → InEveryTrace depth s (λ store trace. lawful a ≡ true)
-  account_lawful a is store trace of_depth led =
+  abbrev KeepsLaw : Account → Type 0
+  KeepsLaw a = InEveryTrace depth s (λ store trace. AddsAccount store trace p l clock r w a)
+
+  drawn_law : (a : Account) → stepped.0 ≡ Ok a → KeepsLaw a
+  drawn_law a is store trace of_depth led =
       let c = call.Commit p l clock r w in
       let answer : answer_in (step the_rules store.depth c s) ≡ Ok a = ap (λ d. answer_in (step the_rules d c s)) of_depth ∙ is in
-      ((the_rules_lawful.one_more_call store trace s c led).commits.0 p l clock r w a (ap (event c) answer)).for_the_book
+      let law = (the_rules_lawful.one_more_call store trace s c led).commits.0 p l clock r w a (ap (event c) answer) in
+      subst (λ q. AccountLaw the_rules store (history_of (event c q ∷ trace)) trace p l clock a) answer law
 
-  abbrev IsLawful : CallersLists → AccountHead → Type 0
-  IsLawful lists h = InEveryTrace depth s (λ store trace. lawful (account_of h lists.0 lists.1) ≡ true)
-
-  answer_lawful :
+  answer_law :
       (q : Result AccountHead EngineFault) (lists : CallersLists) (d : Result Account EngineFault) → (q, lists) ≡ answer_and_lists rs ws d →
-      stepped.0 ≡ d → IfOk q (IsLawful lists)
-  answer_lawful (Ok h) lists (Ok a) is same =
-      λ store trace of_depth led. ap lawful (lists_show rs ws a h lists is) ∙ account_lawful a same store trace of_depth led
-  answer_lawful (Ok h) lists (Err f) is same = not_both h f (ap (λ t. t.0) is)
-  answer_lawful (Err f) lists d is same = tt
+      stepped.0 ≡ d → IfOk q (λ h. KeepsLaw (account_of h lists.0 lists.1))
+  answer_law (Ok h) lists (Ok a) is same = subst KeepsLaw (sym (lists_show rs ws a h lists is)) (drawn_law a same)
+  answer_law (Ok h) lists (Err f) is same = not_both h f (ap (λ t. t.0) is)
+  answer_law (Err f) lists d is same = tt
 
-  pub for_the_book :
-      (q : Result AccountHead EngineFault) (lists : CallersLists) (t : model.Engine) → IsStepped q lists t → IfOk q (IsLawful lists)
-  for_the_book q lists t handed = answer_lawful q lists stepped.0 (ap (λ x. x.0) handed) refl
+  pub commit_law :
+      (q : Result AccountHead EngineFault) (lists : CallersLists) (t : model.Engine) → IsStepped q lists t →
+      IfOk q (λ h. KeepsLaw (account_of h lists.0 lists.1))
+  commit_law q lists t handed = answer_law q lists stepped.0 (ap (λ x. x.0) handed) refl
 
   -- The reply is that of the step.
 

@@ -1,13 +1,15 @@
 -- The law of traces, of the engine that runs: what its calls add to a trace, and what is so of every trace that led to it.
-use Rattle.std.specs.Prelude.{◌≡◌, ℕ, List, ◌∷◌, map, reverse, take, Result}
+use Rattle.std.specs.Prelude.{◌≡◌, ℕ, List, ◌∷◌, map, reverse, take, Ok, Result}
+use Rattle.snapshot.specs.Accounts.{Account}
 use Rattle.snapshot.specs.declared.fault.EngineFault.{EngineFault}
 use Rattle.store.specs.Meaning.{Meaning, new_store}
 use Rattle.engine_model.specs.Engines.{Engine, new_engine}
-use Rattle.engine_model.specs.Law.{TraceLaw, LedTo}
-use Rattle.engine_model.specs.Traces.{event, Event, Trace, NewStore, trace_of}
+use Rattle.engine_model.specs.Law.{AccountLaw, TraceLaw, LedTo}
+use Rattle.engine_model.specs.Traces.{event, Event, Trace, NewStore, trace_of, history_of}
 use Rattle.engine_model.specs.Rules.{the_rules}
 use Rattle.engine_model.specs.Steps.{AnswerTo}
 use Rattle.engine_model.specs.declared.calls.Call.{Call}
+use Rattle.engine_model.specs.declared.calls.Call.TheVariants as call
 use Rattle.engine.specs.Performing.{answers_to, as_result}
 use Rattle.engine.specs.declared.answer.Answer.{Answer}
 
@@ -24,6 +26,12 @@ pub record ExtendsTrace (store : NewStore) (trace : Trace) (c : Call) (answered 
   pub law : TraceLaw the_rules store (event c answer ∷ trace)
   -- and led to the engine after the call, so that the next call adds to it
   pub leads : LedTo the_rules store (event c answer ∷ trace) after
+
+-- A commit by leg l of the chain at place p, with this clock reading and room for r readings and w writes, was answered with this
+-- account. With that event added to the trace, the account keeps its law in the history of the whole.
+abbrev pub AddsAccount : NewStore → Trace → (p l clock r w : ℕ) → Account → Type 0
+AddsAccount store trace p l clock r w a =
+    AccountLaw the_rules store (history_of (event (call.Commit p l clock r w) (Ok a) ∷ trace)) trace p l clock a
 
 -- what was answered in an event
 abbrev pub answered_in : Event → Result Answer EngineFault

@@ -1,7 +1,7 @@
 // The engine and its calls. A refused call answers its fault and leaves the engine as it was.
-ghost use Rattle.std.specs.Prelude.{◌≡◌, ◌≤◌, min, true, [], length, Ok, IfOk, OnErr};
-ghost use Rattle.snapshot.specs.Accounts.{account_of, lawful};
-ghost use Rattle.engine.specs.EngineLaw.{InEveryTrace, OverNewStore};
+ghost use Rattle.std.specs.Prelude.{◌≡◌, ◌≤◌, min, [], length, Ok, IfOk, OnErr};
+ghost use Rattle.snapshot.specs.Accounts.{account_of};
+ghost use Rattle.engine.specs.EngineLaw.{AddsAccount, InEveryTrace, OverNewStore};
 ghost use Rattle.engine_model.specs.Law.{LedTo};
 ghost use Rattle.engine_model.specs.Rules.{the_rules};
 ghost use Rattle.snapshot.specs.Limits.{chain_readings, write_keys};
@@ -170,7 +170,7 @@ impl<S: Store> Engine<S> {
     // Commits a chain by its only open leg: the store takes the leg's writes, their notices are raised, and the place is free
     // again. Without writes the store is not asked, and the clock reading is not looked at. Fills the starts of the two lists
     // with the chain's readings in order and the writes, and leaves their rest; answers the account's five numbers. In every trace
-    // that led to the engine, the book takes the account. Refused: 1 place or leg out of range, 3 that leg is not open, 9 another
+    // that led to the engine, the account keeps its law, as part of which the book takes it. Refused: 1 place or leg out of range, 3 that leg is not open, 9 another
     // leg is open, 10 a list is too short, and by the store 12 the clock reading is too high, 13 no time is left, 14 there is no
     // room for more versions.
     pub fn commit(
@@ -183,7 +183,7 @@ impl<S: Store> Engine<S> {
     ) -> Result<AccountHead, EngineFault>
         ensures step { IsCommit S.Reads.meaning S.Store.depth place leg clock (length readings.old) (length writes.old) self.old (readings.old, writes.old) result (readings.new, writes.new) self.new }
         ensures reply { Replies (call.Commit place leg clock (length readings.old) (length writes.old)) (account_in result readings.new writes.new) }
-        ensures lawful { IfOk result (λ head. InEveryTrace S.Store.depth (engine_of S.Reads.meaning self.old) (λ store trace. lawful (account_of head readings.new writes.new) ≡ true)) }
+        ensures law { IfOk result (λ head. InEveryTrace S.Store.depth (engine_of S.Reads.meaning self.old) (λ store trace. AddsAccount store trace place leg clock (length readings.old) (length writes.old) (account_of head readings.new writes.new))) }
         ensures unchanged { OnErr result (self.new ≡ self.old) }
         ensures readings_unchanged { OnErr result (readings.new ≡ readings.old) }
         ensures writes_unchanged { OnErr result (writes.new ≡ writes.old) }

@@ -21,11 +21,10 @@ use Rattle.engine_model.specs.Engines.{OpenLeg, Chain, Engine}
 use Rattle.engine_model.specs.Replies.{Reply, refused, values_of, refusals_of, CanReply, CanReplyInTrace, Replies, RepliesInEveryTrace, reply_of, refusal_reply}
 use Rattle.engine_model.specs.Rules.{the_rules}
 use Rattle.engine_model.specs.StoreRefusals.{StoreRefusals}
-use Rattle.engine_model.specs.Traces.{event, Trace, AtEach, NewStore, ByRules, engine_after, trace_of}
+use Rattle.engine_model.specs.Traces.{event, Trace, engine_after}
 use Rattle.engine_model.specs.Steps.{AnswerTo, StepOutcome, answer_in, chain_fault, own_reading, account_for, step, handed_to_store}
 use Rattle.engine_model.specs.declared.calls.Call.{Call}
 use Rattle.engine_model.specs.declared.calls.Call.TheVariants as call
-use Rattle.engine_model.proofs.TraceProofs.{the_parts, calls_by_rules}
 use Rattle.engine_model.proofs.StoreRefusalProofs.{refusals_in}
 use Rattle.engine_model.proofs.Outcomes.{at_check, at_chain, at_open, at_open_leg, at_free, at_result, at_else}
 

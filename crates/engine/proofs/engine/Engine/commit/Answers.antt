@@ -1,6 +1,6 @@
 use Rattle.std.proofs.Common.{length, subst}
 use Rattle.engine.specs.Engines.{engine_of}
-use Rattle.engine.proofs.CommitLemmas.{IsStepped, commit_replies, for_the_book}
+use Rattle.engine.proofs.CommitLemmas.{IsStepped, commit_replies, commit_law}
 use Rattle.engine.proofs.engine.Engine.commit.Goals as goal
 
 pub returns-clause-step : goal.returns-clause-step
@@ -19,9 +19,9 @@ returns-clause-reply g c =
     commit_replies g.S.Store.depth c.args.place c.args.leg c.args.clock (length rs) (length ws) rs ws
     (engine_of g.S.Reads.meaning c.args.self.now) _ _ _ (returns-clause-step g c)
 
-pub returns-clause-lawful : goal.returns-clause-lawful
-returns-clause-lawful g c =
+pub returns-clause-law : goal.returns-clause-law
+returns-clause-law g c =
     let rs = c.args.readings.now in
     let ws = c.args.writes.now in
-    for_the_book g.S.Store.depth c.args.place c.args.leg c.args.clock (length rs) (length ws) rs ws
+    commit_law g.S.Store.depth c.args.place c.args.leg c.args.clock (length rs) (length ws) rs ws
     (engine_of g.S.Reads.meaning c.args.self.now) _ _ _ (returns-clause-step g c)
