@@ -27,6 +27,7 @@ impl Model for CommittedAccount {
 
 impl CommittedAccount {
     // The five numbers.
+    #[tactic(auto, using(crate::proofs::CommitLemmas::head_shown))]
     pub fn head(&self) -> AccountHead
         ensures { result ≡ head_of self.now }
     {

@@ -47,6 +47,12 @@ impl<S: Store> Engine<S> {
         ensures value { engine_of S.Reads.meaning result ≡ model.new_engine (S.Reads.meaning store) }
         ensures begins { OverNewStore S.Store.depth (S.Reads.meaning store) (λ new. LedTo the_rules new [] (engine_of S.Reads.meaning result)) }
     {
+        Engine::empty(store)
+    }
+
+    fn empty(store: S) -> Engine<S>
+        ensures { engine_of S.Reads.meaning result ≡ model.new_engine (S.Reads.meaning store) }
+    {
         Engine {
             places: [None; ALL_PLACES],
             caches: [Cache::new(); CACHES],
@@ -235,6 +241,7 @@ impl<S: Store> Engine<S> {
     }
 
     // Frees a place. Refused: 1 place out of range, 3 no chain is open there.
+    #[tactic(auto, using(std::proofs::lemmas::Bool::Decides::nat_tests, engine_parts::proofs::ItemLemmas::item_there), unfolding(engine_model::specs::Steps::check, engine_model::specs::Steps::with_chain))]
     pub fn abandon(&mut self, place: u8) -> Result<(), EngineFault>
         ensures step { IsStep S.Reads.meaning S.Store.depth (call.Abandon place) self.old result self.new }
         ensures reply { Replies (call.Abandon place) result }
@@ -242,15 +249,18 @@ impl<S: Store> Engine<S> {
     {
         let named = Named::place(place);
         named.check_place()?;
-        if self.places[place as usize].is_none() {
-            return Err(named.refused(Refusal::NotOpen));
+        match self.places[place as usize] {
+            None => Err(named.refused(Refusal::NotOpen)),
+            Some(_) => {
+                self.places[place as usize] = None;
+                Ok(())
+            }
         }
-        self.places[place as usize] = None;
-        Ok(())
     }
 
     // Shows a waiting notice, by its position from 0, to its worker's cache, and leaves it waiting.
     // Refused: 16 no notice waits at that position.
+    #[tactic(auto, unfolding(engine_model::specs::Steps::or_else))]
     pub fn deliver(&mut self, position: u64) -> Result<(), EngineFault>
         ensures step { IsStep S.Reads.meaning S.Store.depth (call.Deliver position) self.old result self.new }
         ensures reply { Replies (call.Deliver position) result }
@@ -264,6 +274,7 @@ impl<S: Store> Engine<S> {
     }
 
     // Removes a waiting notice, and later ones move up. Refused: 16 no notice waits at that position.
+    #[tactic(auto, unfolding(engine_model::specs::Steps::or_else))]
     pub fn discard(&mut self, position: u64) -> Result<(), EngineFault>
         ensures step { IsStep S.Reads.meaning S.Store.depth (call.Discard position) self.old result self.new }
         ensures reply { Replies (call.Discard position) result }
@@ -316,6 +327,7 @@ fn give_to_store<S: Store>(
 }
 
 // The cache of a notice's worker takes it. A notice of a worker that is not one of the eight reaches no cache.
+#[tactic(auto, using(crate::proofs::CacheLemmas::notified_worker, crate::proofs::CacheLemmas::notified_nobody))]
 fn notify(caches: &mut [Cache; CACHES], notice: Notice)
     ensures { caches_of caches.new ≡ with_at notice.worker (with_notice notice (caches_of caches.old notice.worker)) (caches_of caches.old) }
 {
