@@ -1,4 +1,4 @@
--- A notice told to the cache of its worker.
+-- A notice in the cache of its worker.
 use Rattle.std.proofs.Common.{◌≡◌, ◌<◌, ◌≤◌, [], List, length, get_or, set, sym, ap, ◌∙◌}
 use Rattle.engine_parts.proofs.ItemLemmas.{item_set, item_there, item_past}
 use Rattle.engine_parts.specs.Caches.{cache_of}

@@ -1,4 +1,4 @@
--- A call that names a chain: what it makes of that chain is what the rules draw of the engine with the chain in its place.
+-- A call that names a chain: what it makes of that chain is the step of the engine with the chain in its place.
 use Rattle.std.proofs.Common.{◌≡◌, ℕ, true, ◌&&◌, ◌==◌, Some, Ok, Err, Result, refl, sym, ap, ◌∙◌}
 use Rattle.snapshot.specs.Intervals.{joined_or_refused}
 use Rattle.snapshot.specs.Limits.{is_key, is_worker, is_place, is_leg}
@@ -37,7 +37,7 @@ WithEngine X = Result X EngineFault × Engine
 abbrev placed : {X : Type 0} → Engine → ℕ → WithChain X → WithEngine X
 placed s p made = (made.0, with_place p (Some made.1) s)
 
--- whatever answer and chain are what is made of a chain, that answer and the engine with that chain are what is drawn
+-- whatever answer and chain are what is made of a chain, that answer and the engine with that chain are the step's
 abbrev pub IsStepOf : {X : Type 0} → Engine → ℕ → WithChain X → WithEngine X → Type 0
 IsStepOf {X} s p made step =
     (r : Result X EngineFault) (c : Chain) → ◌≡◌ {A = WithChain X} (r, c) made →

@@ -54,7 +54,7 @@ filled_more xs old list n x d lt room is same =
     one_more old (take n xs) {mid = list} n (sym (length-take-le n xs (omega arith))) is x (omega arith)
     ∙ ap (λ front. overwritten front old) (ap (λ y. take n xs ++ (y ∷ [])) same ∙ sym (take_more xs n d lt))
 
--- the five numbers and the two lists tell the account
+-- the five numbers and the two lists make the account
 shows : (rs : List ChainReading) (ws : List Write) (a : Account) → account_of (head_of a) (overwritten a.readings rs) (overwritten a.writes ws) ≡ a
 shows rs ws a =
     let A : List ChainReading → List Write → Account =
@@ -111,7 +111,7 @@ module _ (depth p l clock r w : ℕ) (rs : List ChainReading) (ws : List Write) 
   abbrev pub stepped : WithEngine Account
   stepped = step_of depth (call.Commit p l clock r w) s
 
-  -- a commit's answer, its caller's lists and an engine are those that the rules draw
+  -- a commit's answer, its caller's lists and an engine are the step's
   abbrev pub IsStepped : Result AccountHead EngineFault → CallersLists → model.Engine → Type 0
   IsStepped q lists t =
       ◌≡◌ {A = (Result AccountHead EngineFault × CallersLists) × model.Engine} ((q, lists), t) (answer_and_lists rs ws stepped.0, stepped.1)
@@ -142,8 +142,8 @@ module _ (depth p l clock r w : ℕ) (rs : List ChainReading) (ws : List Write) 
   abbrev KeepsLaw : Account → Type 0
   KeepsLaw a = InEveryTrace depth s (λ store trace. AddsAccount store trace p l clock r w a)
 
-  drawn_law : (a : Account) → stepped.0 ≡ Ok a → KeepsLaw a
-  drawn_law a is store trace of_depth led =
+  stepped_law : (a : Account) → stepped.0 ≡ Ok a → KeepsLaw a
+  stepped_law a is store trace of_depth led =
       let c = call.Commit p l clock r w in
       let answer : answer_in (step the_rules store.depth c s) ≡ Ok a = ap (λ d. answer_in (step the_rules d c s)) of_depth ∙ is in
       let law = (the_rules_lawful.one_more_call store trace s c led).commits.0 p l clock r w a (ap (event c) answer) in
@@ -152,7 +152,7 @@ module _ (depth p l clock r w : ℕ) (rs : List ChainReading) (ws : List Write) 
   answer_law :
       (q : Result AccountHead EngineFault) (lists : CallersLists) (d : Result Account EngineFault) → (q, lists) ≡ answer_and_lists rs ws d →
       stepped.0 ≡ d → IfOk q (λ h. KeepsLaw (account_of h lists.0 lists.1))
-  answer_law (Ok h) lists (Ok a) is same = subst KeepsLaw (sym (lists_show rs ws a h lists is)) (drawn_law a same)
+  answer_law (Ok h) lists (Ok a) is same = subst KeepsLaw (sym (lists_show rs ws a h lists is)) (stepped_law a same)
   answer_law (Ok h) lists (Err f) is same = not_both h f (ap (λ t. t.0) is)
   answer_law (Err f) lists d is same = tt
 

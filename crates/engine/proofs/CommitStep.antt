@@ -1,4 +1,4 @@
--- A commit: what the leg that commits, the store and the notices make of it is what the rules draw.
+-- A commit: what the leg that commits, the store and the notices make of it is the step.
 use Rattle.std.proofs.Common.{◌≡◌, ℕ, true, ◌&&◌, List, [], ◌∷◌, Some, None, Ok, Err, Result, refl}
 use Rattle.snapshot.specs.Accounts.{Account}
 use Rattle.snapshot.specs.Limits.{is_place, is_leg}

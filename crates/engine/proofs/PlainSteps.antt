@@ -1,5 +1,5 @@
 -- Calls that are refused before they ask their chain, and calls that ask none: their answer, and the engine after it, are
--- what the rules draw.
+-- those of the step.
 use Rattle.std.proofs.Common.{◌≡◌, ℕ, Bool, true, false, ◌&&◌, Some, None, Ok, Err, Option, Result, refl}
 use Rattle.std.specs.List.{slice_get}
 use Rattle.snapshot.specs.Limits.{is_worker, is_place}

@@ -1,4 +1,4 @@
--- A read: what it makes of its chain and of the caches is what the rules draw of the engine with these in their place.
+-- A read: what it makes of its chain and of the caches is the step of the engine with these in their place.
 use Rattle.snapshot.specs.Intervals.{narrowed}
 use Rattle.std.proofs.Common.{◌≡◌, ℕ, true, ◌&&◌, Some, Ok, Err, Result, refl, ap, ◌∙◌}
 use Rattle.snapshot.specs.Limits.{is_key, is_place, is_leg}

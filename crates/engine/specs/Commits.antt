@@ -27,7 +27,7 @@ committing_leg n r w c =
     then if nat_le (length c.readings) r && nat_le (length leg.writes) w then Ok leg else Err (no TooShort)
     else Err (no AnotherLegOpen))
 
--- the store takes the writes, and their notices are raised; with no writes the store is not asked, and the answer is 0
+-- the store takes the writes, and their notices are raised; with no writes the store is not called, and the answer is 0
 abbrev pub given_to_store : ℕ → ℕ → List Write → (ℕ → Cache) → Meaning × Notices → Result ℕ Fault × (Meaning × Notices)
 given_to_store depth clock [] caches before = (Ok 0, before)
 given_to_store depth clock (w ∷ ws) caches before =
@@ -41,7 +41,7 @@ abbrev pub answer_and_lists :
 answer_and_lists rs ws (Ok a) = (Ok (head_of a), (overwritten a.readings rs, overwritten a.writes ws))
 answer_and_lists rs ws (Err f) = (Err f, (rs, ws))
 
--- the account that a commit's answer and its caller's lists tell
+-- the account that a commit's answer and its caller's lists hold, or its refusal
 abbrev pub account_in : Result AccountHead EngineFault → List ChainReading → List Write → Result Account EngineFault
 account_in (Ok h) rs ws = Ok (account_of h rs ws)
 account_in (Err f) rs ws = Err f

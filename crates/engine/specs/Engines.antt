@@ -28,7 +28,7 @@ engine_of meaning e =
       store = meaning e.store;
     }
 
--- the answer and the engine after are those that the rules draw from the call and the engine before
+-- the answer and the engine after follow by the rules from the call and the engine before
 abbrev pub IsStep :
     {S : Type 0} → (S → Meaning) → (depth : ℕ) (c : Call) → Engine S → Result (AnswerTo c) EngineFault → Engine S → Type 0
 IsStep meaning depth c before answer after =
@@ -40,8 +40,8 @@ IsStep meaning depth c before answer after =
 abbrev pub CallersLists : Type 0
 CallersLists = List ChainReading × List Write
 
--- what a commit answers, its caller's two lists and the engine after are those that the rules draw from the numbers that it names,
--- the room in the lists, the lists and the engine before
+-- what a commit answers, its caller's two lists and the engine after follow by the rules from the numbers that it names, the room
+-- in the lists, the lists and the engine before
 abbrev pub IsCommit :
     {S : Type 0} → (S → Meaning) → (depth place leg clock r w : ℕ) → Engine S → CallersLists → Result AccountHead EngineFault → CallersLists →
     Engine S → Type 0

@@ -14,7 +14,7 @@ use Rattle.engine.specs.declared.leg.LegCall.{LegCall}
 use Rattle.engine.specs.declared.leg.LegCall.TheVariants as call
 use Rattle.engine.specs.declared.leg.OpenLeg.{OpenLeg}
 
--- a leg that is open, as the model tells it
+-- a leg that is open, as the model has it
 abbrev pub open_leg_of : OpenLeg → model.OpenLeg
 open_leg_of o = record { worker = worker_number o.worker; interval = o.interval; writes = writes_of o.writes }
 

@@ -1,4 +1,4 @@
--- What the rules draw from a call and the state before it: the answer, and the state after.
+-- What follows by the rules from a call and the state before it: the answer, and the state after.
 use Rattle.std.specs.Prelude.{ℕ, Result}
 use Rattle.snapshot.specs.declared.fault.EngineFault.{EngineFault}
 use Rattle.engine_model.specs.Engines.{Engine}

@@ -50,6 +50,7 @@ impl<S: Store> Engine<S> {
         Engine::empty(store)
     }
 
+    // The engine itself, as `new` answers it.
     fn empty(store: S) -> Engine<S>
         ensures { engine_of S.Reads.meaning result ≡ model.new_engine (S.Reads.meaning store) }
     {
@@ -174,11 +175,11 @@ impl<S: Store> Engine<S> {
     }
 
     // Commits a chain by its only open leg: the store takes the leg's writes, their notices are raised, and the place is free
-    // again. Without writes the store is not asked, and the clock reading is not looked at. Fills the starts of the two lists
+    // again. Without writes the store is not called, and the clock reading is not looked at. Fills the starts of the two lists
     // with the chain's readings in order and the writes, and leaves their rest; answers the account's five numbers. In every trace
-    // that led to the engine, the account keeps its law, as part of which the book takes it. Refused: 1 place or leg out of range, 3 that leg is not open, 9 another
-    // leg is open, 10 a list is too short, and by the store 12 the clock reading is too high, 13 no time is left, 14 there is no
-    // room for more versions.
+    // that led to the engine, with the commit added, the account keeps its law, and so the book takes it. Refused: 1 place or leg
+    // out of range, 3 that leg is not open, 9 another leg is open, 10 a list is too short, and by the store 12 the clock reading is
+    // too high, 13 no time is left, 14 there is no room for more versions.
     pub fn commit(
         &mut self,
         place: u8,
@@ -306,7 +307,7 @@ impl<S: Store> Engine<S> {
 }
 
 // The store takes the writes of a commit, and their notices are raised; answers their timestamp. Without writes the store is
-// not asked, and the answer is 0.
+// not called, and the answer is 0.
 fn give_to_store<S: Store>(
     store: &mut S,
     notices: &mut Notices,

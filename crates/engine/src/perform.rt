@@ -17,9 +17,9 @@ use snapshot::limits::{CHAIN_READINGS, WRITE_KEYS};
 use store::traits::Store;
 
 impl<S: Store> Engine<S> {
-    // Makes the call. Refused as the call of that name is: its reply is an answer of the call's kind, or one of the refusals that the
-    // table has for the call. Every trace that led to the engine goes on by this call and its
-    // answer, and keeps the law of traces.
+    // Makes the call. Refused as the call of that name is: the reply is an answer of the call's kind, or one of the refusals that
+    // the table has for the call. Every trace that led to the engine goes on by this call and its answer, and keeps the law of
+    // traces.
     pub fn perform(&mut self, call: Call) -> Result<Answer, EngineFault>
         ensures step { (result, engine_of S.Reads.meaning self.new) ≡ performed S.Store.depth call (engine_of S.Reads.meaning self.old) }
         ensures unchanged { OnErr result (self.new ≡ self.old) }
