@@ -1,11 +1,12 @@
--- Traces that go to the limits of chains, caches, notices and times.
+-- Traces that go to the limits of chains, caches, counts and times.
 use Rattle.std.specs.Prelude.{[], ◌∷◌}
 use Rattle.std.proofs.Common.{lit≤}
 use Rattle.snapshot.specs.declared.fault.Layer.TheVariants as layer
 use Rattle.engine_model.specs.Examples.{read, wrote}
+use Rattle.engine_model.specs.Replies.{leg, legs, value, counts, done}
 use Rattle.engine_model.specs.Traces.{new_table}
 use Rattle.engine_model.specs.declared.calls.Call.TheVariants as call
-use Rattle.model_tests.specs.Answered.{Vector, committed, leg, legs, value, notices, done, refused}
+use Rattle.model_tests.specs.Answered.{Vector, committed, refused}
 
 -- a chain's thirty-third reading is refused
 abbrev pub thirty_two_readings : Vector
@@ -66,7 +67,7 @@ thirty_two_readings =
                 ∷ read 0 27 0 0 0 ∷ read 0 28 0 0 0 ∷ read 0 29 0 0 0 ∷ read 0 30 0 0 0 ∷ read 0 31 0 0 0 ∷ [])
                 (wrote 40 9 ∷ []),
           )
-          ∷ (call.Count, notices 0 0)
+          ∷ (call.Count, counts 0 0)
           ∷ [];
     }
 
@@ -205,7 +206,7 @@ more_than_the_depth =
           ∷ (call.Read 0 0 5, value 18)
           ∷ (call.Commit 0 0 0 32 8, committed 180 180 0 (read 0 5 18 180 180 ∷ []) [])
           ∷ (call.Commit 3 0 0 32 8, committed 0 0 0 (read 1 0 0 0 0 ∷ []) [])
-          ∷ (call.Count, notices 0 0)
+          ∷ (call.Count, counts 0 0)
           ∷ [];
     }
 
@@ -358,7 +359,7 @@ sixty_four_notices =
                 []
                 (wrote 0 7 ∷ wrote 1 7 ∷ wrote 2 7 ∷ wrote 3 7 ∷ wrote 4 7 ∷ wrote 5 7 ∷ wrote 6 7 ∷ wrote 7 7 ∷ []),
           )
-          ∷ (call.Count, notices 32 32)
+          ∷ (call.Count, counts 32 32)
           ∷ (call.Begin 0 2, leg 0)
           ∷ (call.Read 0 0 3, value 0)
           ∷ (call.Deliver 26, done)
@@ -372,13 +373,13 @@ sixty_four_notices =
           ∷ (call.Commit 1 0 0 32 8, committed 50 50 0 (read 2 3 7 50 50 ∷ []) [])
           ∷ (call.Discard 31, done)
           ∷ (call.Discard 0, done)
-          ∷ (call.Count, notices 30 32)
+          ∷ (call.Count, counts 30 32)
           ∷ (call.Deliver 31, refused 16 layer.Notices 255 255 255)
           ∷ (call.Begin 0 1, leg 0)
           ∷ (call.Write 0 0 0 8, done)
           ∷ (call.Commit 0 0 60 32 8, committed 0 281474976710656 60 [] (wrote 0 8 ∷ []))
           ∷ (call.Deliver 0, done)
-          ∷ (call.Count, notices 32 38)
+          ∷ (call.Count, counts 32 38)
           ∷ [];
     }
 
@@ -414,7 +415,7 @@ ninth_entry =
           ∷ (call.Write 1 0 2 1, done)
           ∷ (call.Write 1 0 8 1, done)
           ∷ (call.Commit 1 0 9 32 8, committed 0 281474976710656 9 [] (wrote 0 1 ∷ wrote 1 1 ∷ wrote 2 1 ∷ wrote 8 1 ∷ []))
-          ∷ (call.Count, notices 3 0)
+          ∷ (call.Count, counts 3 0)
           ∷ (call.Deliver 0, done)
           ∷ (call.Deliver 1, done)
           ∷ (call.Deliver 2, done)

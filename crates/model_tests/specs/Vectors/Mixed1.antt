@@ -3,9 +3,10 @@ use Rattle.std.specs.Prelude.{[], ◌∷◌}
 use Rattle.std.proofs.Common.{lit≤}
 use Rattle.snapshot.specs.declared.fault.Layer.TheVariants as layer
 use Rattle.engine_model.specs.Examples.{read, wrote}
+use Rattle.engine_model.specs.Replies.{leg, legs, value, counts, done}
 use Rattle.engine_model.specs.Traces.{new_table}
 use Rattle.engine_model.specs.declared.calls.Call.TheVariants as call
-use Rattle.model_tests.specs.Answered.{Vector, committed, leg, legs, value, notices, done, refused}
+use Rattle.model_tests.specs.Answered.{Vector, committed, refused}
 
 -- 88 calls over a table of 1024 records: several chains at once; refused with 1, 2, 3, 10, 12, 15 and 16
 abbrev pub mixed_01 : Vector
@@ -26,7 +27,7 @@ mixed_01 =
           ∷ (call.Write 3 0 2 97, done)
           ∷ (call.Commit 3 0 7 32 8, committed 0 281474976710656 7 [] (wrote 2 97 ∷ []))
           ∷ (call.Begin 3 0, leg 0)
-          ∷ (call.Count, notices 0 0)
+          ∷ (call.Count, counts 0 0)
           ∷ (call.Fork 0 1 1 8, refused 1 layer.Chain 0 1 255)
           ∷ (call.Write 3 0 2 107, done)
           ∷ (call.Commit 3 0 10 32 8, committed 0 281474976710656 10 [] (wrote 2 107 ∷ []))
@@ -99,7 +100,7 @@ mixed_01 =
           ∷ (call.Join 0 1 2 1, leg 3)
           ∷ (call.Read 3 11 64, refused 1 layer.Chain 3 11 64)
           ∷ (call.Commit 0 3 50 32 8, committed 6 6 0 (read 1 1 68 6 6 ∷ read 2 2 0 0 6 ∷ []) [])
-          ∷ (call.Count, notices 2 0)
+          ∷ (call.Count, counts 2 0)
           ∷ (call.Deliver 0, done)
           ∷ [];
     }
@@ -194,7 +195,7 @@ mixed_02 =
           ∷ (call.Prune 18446744073709551615, done)
           ∷ (call.Read 3 3 3, value 0)
           ∷ (call.Write 3 3 0 124, done)
-          ∷ (call.Count, notices 0 0)
+          ∷ (call.Count, counts 0 0)
           ∷ (call.Read 1 1 3, value 0)
           ∷ (call.Read 3 3 4, value 0)
           ∷ [];
@@ -208,7 +209,7 @@ mixed_03 =
       lines =
           (call.Begin 0 2, leg 0)
           ∷ (call.Read 0 0 5, value 0)
-          ∷ (call.Count, notices 0 0)
+          ∷ (call.Count, counts 0 0)
           ∷ (call.Fork 0 0 4 4, legs 1 2)
           ∷ (call.Begin 2 1, leg 0)
           ∷ (call.Write 0 1 200 71, refused 1 layer.Chain 0 1 200)
@@ -367,7 +368,7 @@ mixed_04 =
           ∷ (call.Join 3 8 15 4, refused 5 layer.Chain 3 8 255)
           ∷ (call.Deliver 0, done)
           ∷ (call.Join 3 8 8 2, refused 4 layer.Chain 3 8 255)
-          ∷ (call.Count, notices 1 0)
+          ∷ (call.Count, counts 1 0)
           ∷ (call.Hand 1 6 0, leg 10)
           ∷ (call.Deliver 0, done)
           ∷ (call.Read 1 9 5, value 0)

@@ -3,9 +3,10 @@ use Rattle.std.specs.Prelude.{[], ◌∷◌}
 use Rattle.std.proofs.Common.{lit≤}
 use Rattle.snapshot.specs.declared.fault.Layer.TheVariants as layer
 use Rattle.engine_model.specs.Examples.{read, wrote}
+use Rattle.engine_model.specs.Replies.{leg, legs, value, counts, done}
 use Rattle.engine_model.specs.Traces.{new_table, new_newest}
 use Rattle.engine_model.specs.declared.calls.Call.TheVariants as call
-use Rattle.model_tests.specs.Answered.{Vector, committed, leg, legs, value, notices, done, refused}
+use Rattle.model_tests.specs.Answered.{Vector, committed, refused}
 
 -- 87 calls over a newest store: old intervals; refused with 1, 3, 4, 6, 9, 15 and 16
 abbrev pub mixed_06 : Vector
@@ -118,7 +119,7 @@ mixed_07 =
           ∷ (call.Read 1 0 1, value 0)
           ∷ (call.Read 1 0 2, value 0)
           ∷ (call.Deliver 5, refused 16 layer.Notices 255 255 255)
-          ∷ (call.Count, notices 0 0)
+          ∷ (call.Count, counts 0 0)
           ∷ (call.Read 1 0 3, value 0)
           ∷ (call.Hand 1 0 2, leg 1)
           ∷ (call.Read 1 1 0, value 0)
@@ -177,7 +178,7 @@ mixed_07 =
           ∷ (call.Write 2 0 1 227, done)
           ∷ (call.Write 2 0 2 236, done)
           ∷ (call.Commit 2 0 11 32 8, committed 0 281474976710656 11 [] (wrote 0 217 ∷ wrote 1 227 ∷ wrote 2 236 ∷ []))
-          ∷ (call.Count, notices 32 12)
+          ∷ (call.Count, counts 32 12)
           ∷ (call.Deliver 0, done)
           ∷ (call.Join 0 0 0 0, refused 4 layer.Chain 0 0 255)
           ∷ (call.Commit 0 0 0 1 2, committed 0 0 12 (read 3 0 0 0 0 ∷ []) (wrote 0 206 ∷ wrote 2 131 ∷ []))
@@ -195,7 +196,7 @@ mixed_07 =
           ∷ (call.Read 2 0 2, value 148)
           ∷ (call.Commit 2 0 13 32 8, committed 4 4 0 (read 1 2 148 4 4 ∷ []) [])
           ∷ (call.Read 3 0 1, refused 3 layer.Chain 3 0 1)
-          ∷ (call.Count, notices 32 23)
+          ∷ (call.Count, counts 32 23)
           ∷ (call.Begin 3 3, refused 2 layer.Chain 3 255 255)
           ∷ (call.Read 2 0 2, refused 3 layer.Chain 2 0 2)
           ∷ (
@@ -302,7 +303,7 @@ mixed_08 =
           ∷ (call.Begin 3 1, leg 0)
           ∷ (call.Deliver 0, done)
           ∷ (call.Begin 2 3, leg 0)
-          ∷ (call.Count, notices 1 0)
+          ∷ (call.Count, counts 1 0)
           ∷ (call.Read 2 0 11, value 0)
           ∷ (call.Read 2 0 0, value 0)
           ∷ (call.Read 0 0 4, refused 15 layer.Store 0 0 4)
@@ -346,7 +347,7 @@ mixed_09 =
           ∷ (call.Join 0 255 5 2, refused 1 layer.Chain 0 255 255)
           ∷ (call.Begin 0 1, leg 0)
           ∷ (call.Write 0 0 1 119, done)
-          ∷ (call.Count, notices 0 0)
+          ∷ (call.Count, counts 0 0)
           ∷ (call.Prune 1, done)
           ∷ (call.Commit 2 0 6 32 8, refused 14 layer.Store 2 0 255)
           ∷ (call.Commit 2 0 281474976710656 32 8, refused 12 layer.Store 2 0 255)
@@ -440,7 +441,7 @@ mixed_10 =
           ∷ (call.Commit 2 0 5 32 8, committed 0 281474976710656 5 [] (wrote 0 81 ∷ wrote 4 2147483648 ∷ []))
           ∷ (call.Deliver 1, done)
           ∷ (call.Begin 1 2, leg 0)
-          ∷ (call.Count, notices 3 0)
+          ∷ (call.Count, counts 3 0)
           ∷ (call.Hand 3 0 3, leg 1)
           ∷ (call.Read 3 1 0, value 0)
           ∷ (call.Read 0 0 2, value 0)
@@ -474,7 +475,7 @@ mixed_10 =
           ∷ (call.Fork 1 0 4 4, legs 1 2)
           ∷ (call.Commit 1 2 10 0 0, refused 9 layer.Chain 1 2 255)
           ∷ (call.Read 3 0 0, value 81)
-          ∷ (call.Count, notices 4 0)
+          ∷ (call.Count, counts 4 0)
           ∷ (call.Read 0 0 0, refused 15 layer.Store 0 0 0)
           ∷ (call.Write 3 0 63 127, done)
           ∷ (call.Write 3 0 0 134, done)

@@ -3,9 +3,10 @@ use Rattle.std.specs.Prelude.{[], ◌∷◌}
 use Rattle.std.proofs.Common.{lit≤}
 use Rattle.snapshot.specs.declared.fault.Layer.TheVariants as layer
 use Rattle.engine_model.specs.Examples.{read, wrote}
+use Rattle.engine_model.specs.Replies.{leg, legs, value, counts, done}
 use Rattle.engine_model.specs.Traces.{new_table}
 use Rattle.engine_model.specs.declared.calls.Call.TheVariants as call
-use Rattle.model_tests.specs.Answered.{Vector, committed, leg, legs, value, notices, done, refused}
+use Rattle.model_tests.specs.Answered.{Vector, committed, refused}
 
 -- 84 calls over a table of 128 records: full caches and write sets; refused with 1, 3, 4, 10 and 16
 abbrev pub mixed_11 : Vector
@@ -13,12 +14,12 @@ mixed_11 =
     record {
       over = new_table 128 (lit≤ tt);
       lines =
-          (call.Count, notices 0 0)
+          (call.Count, counts 0 0)
           ∷ (call.Prune 0, done)
           ∷ (call.Begin 1 7, leg 0)
           ∷ (call.Fork 0 9 1 200, refused 1 layer.Chain 0 9 255)
           ∷ (call.Read 1 0 8, value 0)
-          ∷ (call.Count, notices 0 0)
+          ∷ (call.Count, counts 0 0)
           ∷ (call.Read 1 0 5, value 0)
           ∷ (call.Read 1 0 10, value 0)
           ∷ (call.Fork 2 0 4 4, refused 3 layer.Chain 2 0 255)
@@ -220,7 +221,7 @@ mixed_13 =
     record {
       over = new_table 128 (lit≤ tt);
       lines =
-          (call.Count, notices 0 0)
+          (call.Count, counts 0 0)
           ∷ (call.Begin 3 5, leg 0)
           ∷ (call.Read 3 0 0, value 0)
           ∷ (call.Begin 1 7, leg 0)
