@@ -9,3 +9,4 @@ pub mod RoundTrip
 pub mod Writing
 pub mod Reading
 pub mod Listings
+pub mod Outputs

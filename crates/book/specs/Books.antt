@@ -1,9 +1,10 @@
--- The reading of a whole book, account after account from its first byte.
-use Rattle.std.specs.Prelude.{◌≡◌, ℕ, ◌+◌, true, List, [], ◌∷◌, ◌++◌, map, length, drop, Ok, Err, codes, decimal, Some, None, Option, Result}
+-- The reading of a whole book, account after account from its first byte, and the text of its listing.
+use Rattle.std.specs.Prelude.{◌≡◌, ℕ, ◌+◌, ◌<◌, true, List, ◌++◌, map, length, take, drop, Ok, Err, codes, decimal, Some, None, Option, Result}
+use Rattle.std.specs.Io.KnownBytes.{Appends}
 use Rattle.std.specs.List.{flat_map, AllByRecursion}
 use Rattle.snapshot.specs.Accounts.{Account, head_of, lawful}
 use Rattle.snapshot.specs.Refusals.{book_fault, refusal_number}
-use Rattle.snapshot.specs.Shown.{head_text, spaced}
+use Rattle.snapshot.specs.Shown.{head_text, line_break, spaced}
 use Rattle.snapshot.specs.declared.account.AccountHead.{AccountHead}
 use Rattle.snapshot.specs.declared.fault.BookFault.{BookFault}
 use Rattle.book.specs.declared.reader.AccountAt.{AccountAt}
@@ -26,10 +27,12 @@ abbrev pub StandsOrRefused : List ℕ → ℕ → Result AccountAt BookFault →
 StandsOrRefused book start (Ok at) = Stands book start at
 StandsOrRefused book start (Err f) = Refused book start f
 
--- where the reading of a book ends: at its end, or behind these bytes where the next account is refused with this fault
+-- where the reading of a book ends: at its end, or behind these bytes where more follow and the account there is refused with
+-- this fault
 abbrev pub Ends : List ℕ → List ℕ → Option BookFault → Type 0
 Ends book read None = book ≡ read
-Ends book read (Some f) = (book ≡ read ++ drop (length read) book) × Refused book (length read) f
+Ends book read (Some f) =
+    (book ≡ read ++ drop (length read) book) × (length read < length book) × Refused book (length read) f
 
 -- The book begins with the bytes of lawful accounts, one after another; the listing has the five numbers of each, in
 -- order, and the reading ended behind them.
@@ -45,10 +48,15 @@ pub record ListedBehind (before after : List AccountHead) (book : List ℕ) (end
   pub behind : after ≡ before ++ heads
   pub listed : Listed book heads ending
 
--- The text of a listing.
+-- The list after an error is the list before it with the heads of lawful accounts behind, whose bytes, one after another,
+-- are a front of the book.
+pub record ReadBehind (before after : List AccountHead) (book : List ℕ) : Type 0 where
+  pub accounts : List Account
+  pub lawfully : AllByRecursion (λ a. lawful a ≡ true) accounts
+  pub behind : after ≡ before ++ map head_of accounts
+  pub front : book ≡ flat_map account_bytes accounts ++ drop (length (flat_map account_bytes accounts)) book
 
-abbrev pub line_break : List ℕ
-line_break = 10 ∷ []
+-- The text of a listing.
 
 abbrev pub head_line : AccountHead → List ℕ
 head_line h = head_text h ++ line_break
@@ -60,3 +68,29 @@ ending_line count (Some f) = codes "bad " ++ spaced (refusal_number f.fault.refu
 
 abbrev pub listing_text : List AccountHead → Option BookFault → List ℕ
 listing_text heads ending = flat_map head_line heads ++ ending_line (length heads) ending
+
+-- What an output gains.
+
+-- only so many bytes of an input count
+abbrev pub most_bytes : ℕ
+most_bytes = 65536
+
+-- the text is that of a listing of this book
+pub record ListsBook (book text : List ℕ) : Type 0 where
+  pub heads : List AccountHead
+  pub ending : Option BookFault
+  pub listed : Listed book heads ending
+  pub shown : text ≡ listing_text heads ending
+
+-- the known bytes of an output have grown by the text of a listing of this book
+pub record GainsListing (book : List ℕ) (before after : Option (List ℕ)) : Type 0 where
+  pub text : List ℕ
+  pub lists : ListsBook book text
+  pub gains : Appends before after text
+
+-- the known bytes of an output have grown by the first bytes of such a text, or by none
+pub record GainsFront (book : List ℕ) (before after : Option (List ℕ)) : Type 0 where
+  pub text : List ℕ
+  pub count : ℕ
+  pub lists : 0 < count → ListsBook book text
+  pub gains : Appends before after (take count text)

@@ -1,9 +1,10 @@
-// The book of accounts: an account's bytes, written and read, and the reading of a whole book.
+// The book of accounts: an account's bytes, written and read, the reading of a whole book, and its listing.
 #![tactic(auto)]
 
 pub mod account;
 mod lawful;
 pub mod listing;
+pub mod output;
 mod packed;
 pub mod reader;
 pub mod sum;

@@ -1,19 +1,23 @@
 // The reading of a whole book, and the text that lists its accounts.
-ghost use Rattle.std.specs.Prelude.{◌≡◌, ◌+◌, ◌/◌, ◌≤◌, true, length, is_ok, IfOk, vec_len, vec_capacity, string_bytes};
-ghost use Rattle.book.specs.Books.{ListedBehind, StandsOrRefused, listing_text};
+ghost use Rattle.std.specs.Prelude.{◌≡◌, ◌+◌, ◌/◌, ◌≤◌, true, length, is_ok, IfOk, OnErr, Some, vec_len, vec_capacity};
+ghost use Rattle.book.specs.Books.{ListedBehind, ReadBehind, StandsOrRefused, listing_text};
 ghost use Rattle.book.specs.Format.{size_of};
 
 use crate::reader::{AccountAt, account_at};
 use snapshot::account::AccountHead;
 use snapshot::fault::BookFault;
-use std::alloc::{AllocError, Global};
+use std::alloc::AllocError;
+use std::fmt;
 
 // Reads a book from its first byte: account after account, to its end or to the first that is refused. Adds the five
 // numbers of each account to the list, and answers the fault of the account at which the reading ended; none at the end of
-// the book. The only error is want of memory, and it does not come where the list has room for as many accounts as a book
-// of that length can have.
+// the book. The only error is want of memory: it comes where the list is full and another account was read, and leaves in
+// the list the accounts read before that one. It does not come where the list has room for as many accounts as a book of
+// that length can have.
 pub fn read_book(book: &[u8], heads: &mut Vec<AccountHead>) -> Result<Option<BookFault>, AllocError>
     ensures listed { IfOk result (λ e. ListedBehind heads.old.items heads.new.items book.now e) }
+    ensures so_far { OnErr result (ReadBehind heads.old.items heads.new.items book.now) }
+    ensures full { OnErr result (vec_capacity heads.old ≤ vec_len heads.new) }
     ensures succeeds { vec_len heads.old + length book.now / size_of 0 0 ≤ vec_capacity heads.old → is_ok result ≡ true }
 {
     // a `while`: how far the next account reaches is known only once it is read
@@ -38,29 +42,26 @@ fn read_head(book: &[u8], start: usize) -> Result<AccountAt, BookFault>
     Ok(stored.account().located(start))
 }
 
-// A line for each account with its five numbers; then `end` and the number of accounts, or `bad`, the number of the
-// refusal and the place of the refused account. The only error is want of memory.
-pub fn listing_text(
-    heap: Global,
-    heads: &[AccountHead],
-    ending: Option<BookFault>,
-) -> Result<String, AllocError>
-    ensures { IfOk result (λ t. string_bytes t ≡ listing_text heads.now ending) }
-{
-    let mut text = String::new(heap);
-    for head in heads {
-        writeln!(text, "{head}")?;
-    }
-    match ending {
-        None => {
-            let count = heads.len();
-            writeln!(text, "end {count}")?;
+// A listing's text: a line for each account with its five numbers; then `end` and the number of accounts, or `bad`, the
+// number of the refusal and the place of the refused account.
+#[derive(Clone, Copy)]
+pub struct Listing<'a> {
+    pub heads: &'a [AccountHead],
+    pub ending: Option<BookFault>,
+}
+
+impl fmt::Display for Listing<'_> {
+    ghost output = { λ l. Some (listing_text l.heads.now l.ending) };
+
+    fn fmt<W: fmt::Write>(&self, f: &mut fmt::Formatter<W>) -> fmt::Result {
+        for head in self.heads {
+            writeln!(f, "{head}")?;
         }
-        Some(fault) => {
-            let number = fault.fault.refusal.number();
-            let start = fault.start;
-            writeln!(text, "bad {number} {start}")?;
+        match self.ending {
+            None => writeln!(f, "end {}", self.heads.len()),
+            Some(BookFault { fault, start }) => {
+                writeln!(f, "bad {} {start}", fault.refusal.number())
+            }
         }
     }
-    Ok(text)
 }

@@ -5,7 +5,7 @@
 #[cfg(test)]
 mod tests;
 
-use book::listing::{listing_text, read_book};
+use book::listing::{Listing, read_book};
 use std::fs;
 
 const BOOKS: usize = 24;
@@ -14,8 +14,11 @@ fn list(rt: &HostRuntime, name: &str) -> anyhow::Result<()> {
     let bytes = fs::read(rt, name)?;
     let mut heads = Vec::new(rt.alloc());
     let ending = read_book(bytes.as_slice(), &mut heads)?;
-    let text = listing_text(rt.alloc(), heads.as_slice(), ending)?;
-    print!(rt; "{name}\n{text}")?;
+    let listing = Listing {
+        heads: heads.as_slice(),
+        ending,
+    };
+    print!(rt; "{name}\n{listing}")?;
     Ok(())
 }
 

@@ -3,6 +3,7 @@ use Rattle.std.specs.Prelude.{ℕ, ◌+◌, ◌==◌, min, if◌then◌else◌, 
 use Rattle.std.specs.Io.KnownBytes.{Appends}
 use Rattle.std.specs.List.{onto_first}
 use Rattle.snapshot.specs.Limits.{key_count, most_records}
+use Rattle.snapshot.specs.Shown.{line_break}
 use Rattle.snapshot.specs.declared.fault.EngineFault.{EngineFault}
 use Rattle.snapshot.specs.declared.fault.Fault.{Fault}
 use Rattle.store.specs.Meaning.{new_store}
@@ -12,7 +13,7 @@ use Rattle.engine.specs.Performing.{performed}
 use Rattle.engine.specs.declared.answer.Answer.{Answer}
 use Rattle.engine.specs.declared.answer.Answer.TheVariants as answer
 use Rattle.script.specs.Lines.{line_of}
-use Rattle.script.specs.Shown.{line_break, outcome_text, request_text, store_text}
+use Rattle.script.specs.Shown.{outcome_text, request_text, store_text}
 use Rattle.script.specs.declared.line.Line.{Line}
 use Rattle.script.specs.declared.line.Line.TheVariants as line
 use Rattle.script.specs.declared.line.StoreKind.TheVariants.{Newest, Table}

@@ -4,7 +4,7 @@ use Rattle.std.specs.Fmt.{digit_glyph}
 use Rattle.std.specs.List.{flat_map}
 use Rattle.snapshot.specs.Accounts.{Account, head_of, lawful}
 use Rattle.snapshot.specs.Refusals.{book_fault, refusal_number}
-use Rattle.snapshot.specs.Shown.{head_text, spaced}
+use Rattle.snapshot.specs.Shown.{head_text, line_break, spaced}
 use Rattle.snapshot.specs.declared.account.ChainReading.{ChainReading}
 use Rattle.snapshot.specs.declared.account.Write.{Write}
 use Rattle.snapshot.specs.declared.fault.Fault.{Fault}
@@ -69,9 +69,6 @@ fault_text f =
     codes "refused " ++ spaced (refusal_number f.refusal) (layer_text f.layer ++ (codes " " ++ three f.place f.leg f.key))
 
 -- Accounts: a line with the five numbers, one for each reading and each write, and one with the bytes in the book.
-
-abbrev pub line_break : List ℕ
-line_break = 10 ∷ []
 
 abbrev pub reading_text : ChainReading → List ℕ
 reading_text r = five r.worker r.key r.reading.value r.reading.timestamp r.reading.promise

@@ -1,4 +1,4 @@
--- The text of an account's five numbers: in decimal, with single spaces.
+-- The text of an account's five numbers, in decimal with single spaces, and the end of a line.
 use Rattle.std.specs.Prelude.{ℕ, List, [], ◌∷◌, ◌++◌, decimal}
 use Rattle.snapshot.specs.declared.account.AccountHead.{AccountHead}
 
@@ -10,3 +10,6 @@ abbrev pub head_text : AccountHead → List ℕ
 head_text h =
     spaced h.interval.low
     (spaced h.interval.high (spaced h.timestamp (spaced h.readings (decimal h.writes))))
+
+abbrev pub line_break : List ℕ
+line_break = 10 ∷ []

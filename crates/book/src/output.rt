@@ -1,0 +1,70 @@
+// From an input to an output: the listing of the book that the input has.
+ghost use Rattle.std.specs.Prelude.{◌≡◌, ℕ, IfOk, IfSome, MatchResult, OnErr, OnOk, string_bytes, take};
+ghost use Rattle.std.specs.Io.KnownBytes.{Appends};
+ghost use Rattle.book.specs.Books.{GainsFront, GainsListing, ListsBook, most_bytes};
+
+use crate::listing::{Listing, read_book};
+use std::alloc::Global;
+use std::io::{self, ErrorKind, Read, Write};
+
+// How many bytes of an input count.
+const MOST_BYTES: u64 = 65_536;
+
+// Reads the book on the input, of which the first 65,536 bytes count, and writes the text of its listing. Fails where the
+// input cannot be read, the output cannot be written, or there is no memory. Where the bytes of input and output are known,
+// as in memory, the output has gained that text; after an error nothing, or a front of it.
+#[tactic(auto, using(crate::proofs::Outputs::gains_none, crate::proofs::Outputs::gains_front, crate::proofs::Outputs::gains_listing))]
+pub fn list_book<R: Read + Drop, W: Write>(heap: Global, input: R, output: &mut W) -> io::Result<()>
+    ensures lists { OnOk result (IfSome (R.Read.remaining input) (λ rest. GainsListing (take most_bytes rest) (W.contents output.old) (W.contents output.new))) }
+    ensures front { OnErr result (IfSome (R.Read.remaining input) (λ rest. GainsFront (take most_bytes rest) (W.contents output.old) (W.contents output.new))) }
+{
+    let text = read_listing(heap, input)?;
+    write_front(output, text.as_bytes())
+}
+
+// The text of the listing of the book on the input.
+#[tactic(auto, using(crate::proofs::Outputs::lists_known))]
+fn read_listing<R: Read + Drop>(heap: Global, input: R) -> io::Result<String>
+    ensures { IfOk result (λ text. IfSome (R.Read.remaining input) (λ rest. ListsBook (take most_bytes rest) (string_bytes text))) }
+{
+    let book = first_bytes(heap, input)?;
+    let mut heads = Vec::new(heap);
+    let ending = read_book(book.as_slice(), &mut heads)?;
+    let listing = Listing {
+        heads: heads.as_slice(),
+        ending,
+    };
+    Ok(format!(in heap; "{listing}")?)
+}
+
+// The bytes of the input that count.
+fn first_bytes<R: Read + Drop>(heap: Global, input: R) -> io::Result<Vec<u8>>
+    ensures { IfOk result (λ bytes. IfSome (R.Read.remaining input) (λ rest. bytes.items ≡ take most_bytes rest)) }
+{
+    let mut bytes = Vec::new(heap);
+    let _ = input.take(MOST_BYTES).read_to_end(&mut bytes)?;
+    Ok(bytes)
+}
+
+// Writes the bytes; after an error the first of them are written.
+fn write_front<W: Write>(output: &mut W, bytes: &[u8]) -> io::Result<()>
+    ensures { MatchResult result (λ _. Appends (W.contents output.old) (W.contents output.new) bytes.now) (λ _. (count : ℕ) × Appends (W.contents output.old) (W.contents output.new) (take count bytes.now)) }
+{
+    let mut sent = 0;
+    // nothing says how often an output may be interrupted
+    for _ in 0..u64::MAX {
+        if sent >= bytes.len() {
+            return Ok(());
+        }
+        match output.write(&bytes[sent..]) {
+            Ok(0) => return Err(io::Error::from(ErrorKind::WriteZero)),
+            Ok(count) => sent += count,
+            Err(error) => {
+                if error.kind() != ErrorKind::Interrupted {
+                    return Err(error);
+                }
+            }
+        }
+    }
+    Err(io::Error::from(ErrorKind::TimedOut))
+}
