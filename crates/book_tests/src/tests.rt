@@ -1,11 +1,14 @@
 // Tests of the book's writer and reader: what is written, every refusal with its number and place, and the order of checks.
 use book::account::Account;
-use book::listing::{listing_text, read_book};
+use book::listing::{Listing, read_book};
+use book::output::list_book;
 use book::reader::read_account;
 use book::sum::last_byte;
 use snapshot::account::{AccountHead, ChainReading, NO_READING, NO_WRITE, Reading, Write};
 use snapshot::fault::{BookFault, Layer};
 use snapshot::interval::Interval;
+use std::alloc::Global;
+use std::io::{self, ErrorKind};
 use std::process::Abort;
 use std::test::Fail;
 
@@ -455,10 +458,14 @@ fn last_byte_is_the_exclusive_or(rt: HostRuntime) {
 fn lists(rt: &(impl Abort + AllocGlobal), book: &[u8], text: &str) -> Result<(), Fail> {
     let mut heads = Vec::new(rt.alloc());
     let ending = read_book(book, &mut heads)?;
-    assert_eq!(rt;
-        listing_text(rt.alloc(), heads.as_slice(), ending)?.as_str(),
-        text
-    );
+    let listing = Listing {
+        heads: heads.as_slice(),
+        ending,
+    };
+    assert_eq!(rt; format!(in rt.alloc(); "{listing}")?.as_str(), text);
+    let mut output = Vec::new(rt.alloc());
+    list_book(rt.alloc(), book, &mut output)?;
+    assert_eq!(rt; output.as_slice(), text.as_bytes());
     Ok(())
 }
 
@@ -480,4 +487,127 @@ fn books_are_listed(rt: HostRuntime) -> Result<(), Fail> {
         two.as_slice(),
         "0 281474976710656 0 0 0\n20 30 51 3 2\nbad 18 134\n",
     )
+}
+
+// So many of the shortest accounts, one after another.
+fn shortest_accounts(heap: Global, count: usize) -> io::Result<Vec<u8>> {
+    let mut book = Vec::new(heap);
+    for _ in 0..count {
+        book.extend_from_slice(&SHORTEST)?;
+    }
+    Ok(book)
+}
+
+// The lines of so many of the shortest accounts, and this last one.
+fn shortest_lines(heap: Global, count: usize, last: &str) -> io::Result<Vec<u8>> {
+    let mut text = Vec::new(heap);
+    for _ in 0..count {
+        text.extend_from_slice(b"0 281474976710656 0 0 0\n")?;
+    }
+    text.extend_from_slice(last.as_bytes())?;
+    Ok(text)
+}
+
+// 2,259 of the shortest accounts have 65,511 bytes, and the next one would end behind the limit.
+#[test]
+fn input_is_cut_within_an_account(rt: HostRuntime) -> Result<(), Fail> {
+    let book = shortest_accounts(rt.alloc(), 2_300)?;
+    let mut output = b"before\n".to_vec(rt.alloc())?;
+    list_book(rt.alloc(), book.as_slice(), &mut output)?;
+    let expected = shortest_lines(rt.alloc(), 2_259, "bad 18 65511\n")?;
+    assert_eq!(rt; &output[..7], b"before\n".as_slice());
+    assert!(rt; output[7..] == expected[..]);
+    Ok(())
+}
+
+// Errors of the input and of the output.
+
+// A reader of these bytes that gives few at a time, is interrupted before each, and fails behind them.
+#[derive(Drop)]
+struct Failing<'a> {
+    bytes: &'a [u8],
+    interrupted: bool,
+}
+
+impl io::Read for Failing<'_> {
+    fn read(&mut self, buffer: &mut [u8]) -> io::Result<usize> {
+        self.interrupted = !self.interrupted;
+        if self.interrupted {
+            return Err(io::Error::from(ErrorKind::Interrupted));
+        }
+        if self.bytes.is_empty() {
+            return Err(io::Error::other("the input failed"));
+        }
+        let count = buffer.len().min(self.bytes.len()).min(10);
+        buffer[..count].copy_from_slice(&self.bytes[..count]);
+        self.bytes = &self.bytes[count..];
+        Ok(count)
+    }
+}
+
+#[test]
+fn failing_input_leaves_the_output(rt: HostRuntime) -> Result<(), Fail> {
+    for size in [0, 28, 29, 105] {
+        let input = Failing {
+            bytes: &SAMPLE_BYTES[..size],
+            interrupted: false,
+        };
+        let mut output = b"before\n".to_vec(rt.alloc())?;
+        let Err(error) = list_book(rt.alloc(), input, &mut output) else {
+            return Err(Fail::new("accepted"));
+        };
+        assert_eq!(rt; error.kind(), ErrorKind::Other);
+        assert_eq!(rt; output.as_slice(), b"before\n".as_slice());
+    }
+    Ok(())
+}
+
+// A writer that has room for so many bytes, takes few at a time, is interrupted before each, and refuses more.
+#[derive(Drop)]
+struct Narrow {
+    taken: Vec<u8>,
+    room: usize,
+    interrupted: bool,
+}
+
+impl io::Write for Narrow {
+    fn write(&mut self, bytes: &[u8]) -> io::Result<usize> {
+        self.interrupted = !self.interrupted;
+        if self.interrupted {
+            return Err(io::Error::from(ErrorKind::Interrupted));
+        }
+        let count = bytes.len().min(self.room).min(10);
+        self.taken.extend_from_slice(&bytes[..count])?;
+        self.room -= count;
+        Ok(count)
+    }
+
+    fn flush(&mut self) -> io::Result<()> {
+        Ok(())
+    }
+}
+
+#[test]
+fn output_that_takes_no_more_has_the_front_of_the_text(rt: HostRuntime) -> Result<(), Fail> {
+    let expected = b"20 30 51 3 2\nend 1\n";
+    for room in [0, 1, 12, 13, 18] {
+        let mut output = Narrow {
+            taken: Vec::new(rt.alloc()),
+            room,
+            interrupted: false,
+        };
+        let Err(error) = list_book(rt.alloc(), SAMPLE_BYTES.as_slice(), &mut output) else {
+            return Err(Fail::new("accepted"));
+        };
+        assert_eq!(rt; error.kind(), ErrorKind::WriteZero);
+        assert_eq!(rt; output.taken.as_slice(), &expected[..room]);
+    }
+    let mut output = Narrow {
+        taken: Vec::new(rt.alloc()),
+        room: 19,
+        interrupted: false,
+    };
+    list_book(rt.alloc(), SAMPLE_BYTES.as_slice(), &mut output)?;
+    assert_eq!(rt; output.taken.as_slice(), expected.as_slice());
+    Ok(())
 }
