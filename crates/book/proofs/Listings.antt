@@ -1,5 +1,5 @@
 -- A book read so far, and one account more.
-use Rattle.std.proofs.Common.{◌≡◌, ℕ, ◌+◌, ◌*◌, ◌/◌, ◌<◌, ◌≤◌, true, List, [], ◌∷◌, ◌++◌, map, length, drop, sym, refl, ap, ◌∙◌, arith}
+use Rattle.std.proofs.Common.{◌≡◌, ℕ, ◌+◌, ◌*◌, ◌/◌, ◌<◌, ◌≤◌, true, List, [], ◌∷◌, ◌++◌, map, length, drop, sym, refl, ap, ◌∙◌, subst, arith}
 use Rattle.std.proofs.ByRecursion.{All-push}
 use Rattle.std.proofs.lemmas.List.{append_assoc, flat_map_more, length-append, length-drop, length-map, map_push}
 use Rattle.std.specs.List.{flat_map, AllByRecursion}
@@ -70,13 +70,15 @@ module _ {before after : List AccountHead} {book : List ℕ} {start : ℕ} (b : 
       let more = ap length b.behind ∙ length-append before b.heads in
       omega (arith, so_far_few b.read, takes_its_size a, fits, length-drop start book, more)
 
-  -- where no account was added, the list has those that were read so far
-  pub read_behind : {more : List AccountHead} → more ≡ after → ReadBehind before more book
-  read_behind same =
+  -- where the account that stands here was not added, the list has those that were read so far
+  pub read_behind : {at : AccountAt} {more : List AccountHead} → Stands book start at → more ≡ after → ReadBehind before more book
+  read_behind {at} next same =
       let r = b.read in
       record {
         accounts = r.accounts;
         lawfully = r.lawfully;
         behind = same ∙ b.behind ∙ ap (λ hs. before ++ hs) r.listed;
         front = r.read ∙ ap (λ n. flat_map account_bytes r.accounts ++ drop n book) r.place;
+        next = at;
+        stands = subst (λ n. Stands book n at) r.place next;
       }

@@ -49,12 +49,14 @@ pub record ListedBehind (before after : List AccountHead) (book : List ℕ) (end
   pub listed : Listed book heads ending
 
 -- The list after an error is the list before it with the heads of lawful accounts behind, whose bytes, one after another,
--- are a front of the book.
+-- are a front of the book; and one account more stands behind them.
 pub record ReadBehind (before after : List AccountHead) (book : List ℕ) : Type 0 where
   pub accounts : List Account
   pub lawfully : AllByRecursion (λ a. lawful a ≡ true) accounts
   pub behind : after ≡ before ++ map head_of accounts
   pub front : book ≡ flat_map account_bytes accounts ++ drop (length (flat_map account_bytes accounts)) book
+  pub next : AccountAt
+  pub stands : Stands book (length (flat_map account_bytes accounts)) next
 
 -- The text of a listing.
 

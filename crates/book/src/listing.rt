@@ -11,9 +11,9 @@ use std::fmt;
 
 // Reads a book from its first byte: account after account, to its end or to the first that is refused. Adds the five
 // numbers of each account to the list, and answers the fault of the account at which the reading ended; none at the end of
-// the book. The only error is want of memory: it comes where the list is full and another account was read, and leaves in
-// the list the accounts read before that one. It does not come where the list has room for as many accounts as a book of
-// that length can have.
+// the book. The only error is want of memory. Then the list has those of the accounts read so far, at least as many in all as
+// it had room for, and one account more stands in the book. It does not come where the list has room for as many accounts as
+// a book of that length can have.
 pub fn read_book(book: &[u8], heads: &mut Vec<AccountHead>) -> Result<Option<BookFault>, AllocError>
     ensures listed { IfOk result (λ e. ListedBehind heads.old.items heads.new.items book.now e) }
     ensures so_far { OnErr result (ReadBehind heads.old.items heads.new.items book.now) }

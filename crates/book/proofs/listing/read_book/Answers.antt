@@ -12,7 +12,7 @@ returns-in_err-push-in-Ok-clause-succeeds c =
 
 pub returns-in_err-push-in-Ok-clause-so_far : goal.returns-in_err-push-in-Ok-clause-so_far
 returns-in_err-push-in-Ok-clause-so_far c =
-    search (rules, read_behind c.loop-start.invariant.0 c.in_err-push-in-Ok.ensures.items)
+    search (rules, read_behind c.loop-start.invariant.0 c.in-Ok.ensures c.in_err-push-in-Ok.ensures.items)
 
 pub loop-start-smaller : goal.loop-start-smaller
 loop-start-smaller c = omega (arith, goes_on c.in-Ok.ensures)
