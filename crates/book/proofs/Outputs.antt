@@ -3,29 +3,26 @@ use Rattle.std.proofs.Common.{◌≡◌, ℕ, ◌-◌, List, [], ◌++◌, lengt
 use Rattle.std.proofs.KnownBytes.{Appends-nil}
 use Rattle.std.proofs.lemmas.List.{take_all}
 use Rattle.std.specs.Io.KnownBytes.{Appends}
-use Rattle.std.specs.Io.Take.{take_inner, take_limit, take_remaining}
 use Rattle.std.specs.Option.{option_map}
 use Rattle.std.specs.Prelude.{IfSome}
-use Rattle.std.specs.declared.io.traits.Take.{Take}
 use Rattle.snapshot.specs.declared.account.AccountHead.{AccountHead}
 use Rattle.snapshot.specs.declared.fault.BookFault.{BookFault}
-use Rattle.book.specs.Books.{GainsFront, GainsListing, ListedBehind, ListsBook, listing_text, most_bytes}
+use Rattle.book.specs.Books.{GainsFront, GainsListing, IsFrontOf, ListedBehind, ListsBook, listing_text, most_bytes}
 
-front_of : (known : Option (List ℕ)) (limit : ℕ) (before items : List ℕ) → limit ≡ most_bytes → before ≡ [] → IfSome (option_map (take limit) known) (λ xs. items ≡ before ++ xs) → IfSome known (λ rest. items ≡ take most_bytes rest)
-front_of None limit before items is none read = tt
-front_of (Some xs) limit before items is none read = read ∙ ap (λ bs. bs ++ take limit xs) none ∙ ap (λ n. take n xs) is
+front_of : (given : Option (List ℕ)) (limit : ℕ) (before items : List ℕ) → IfSome (option_map (take limit) given) (λ xs. items ≡ before ++ xs) → limit ≡ most_bytes → before ≡ [] → IfSome given (λ rest. items ≡ take most_bytes rest)
+front_of None limit before items read is none = tt
+front_of (Some xs) limit before items read is none = read ∙ ap (λ bs. bs ++ take limit xs) none ∙ ap (λ n. take n xs) is
 
--- all that a reader of so many bytes gives is the front of what its own reader has left
-pub known_front : {R : Type 0} (remaining : R → Option (List ℕ)) (taken : Take R) (input : R) (before items : List ℕ) → take_limit taken ≡ most_bytes → take_inner taken ≡ input → before ≡ [] → IfSome (take_remaining remaining taken) (λ xs. items ≡ before ++ xs) → IfSome (remaining input) (λ rest. items ≡ take most_bytes rest)
-known_front remaining taken input before items limit inner none read =
-    subst (λ r. IfSome (remaining r) (λ rest. items ≡ take most_bytes rest)) inner
-    (front_of (remaining (take_inner taken)) (take_limit taken) before items limit none read)
+-- what a reader with a limit gave is the front of what its own reader had left
+pub known_front : (given known : Option (List ℕ)) (limit : ℕ) (before items : List ℕ) → IfSome (option_map (take limit) given) (λ xs. items ≡ before ++ xs) → limit ≡ most_bytes → before ≡ [] → given ≡ known → IsFrontOf known items
+known_front given known limit before items read is none same =
+    record { front = subst (λ k. IfSome k (λ rest. items ≡ take most_bytes rest)) same (front_of given limit before items read is none) }
 
 -- the text of what was read is that of a listing of the known bytes
-pub lists_known : (known : Option (List ℕ)) (book text : List ℕ) (heads : List AccountHead) (ending : Option BookFault) → IfSome known (λ rest. book ≡ take most_bytes rest) → ListedBehind [] heads book ending → text ≡ listing_text heads ending → IfSome known (λ rest. ListsBook (take most_bytes rest) text)
+pub lists_known : (known : Option (List ℕ)) (book text : List ℕ) (heads : List AccountHead) (ending : Option BookFault) → IsFrontOf known book → ListedBehind [] heads book ending → text ≡ listing_text heads ending → IfSome known (λ rest. ListsBook (take most_bytes rest) text)
 lists_known None book text heads ending is listed shown = tt
 lists_known (Some rest) book text heads ending is listed shown =
-    subst (λ bs. ListsBook bs text) is
+    subst (λ bs. ListsBook bs text) is.front
     (record { heads = listed.heads; ending = ending; listed = listed.listed; shown = shown ∙ ap (λ hs. listing_text hs ending) listed.behind })
 
 -- nothing was written

@@ -1,5 +1,5 @@
 -- The reading of a whole book, account after account from its first byte, and the text of its listing.
-use Rattle.std.specs.Prelude.{◌≡◌, ℕ, ◌+◌, ◌<◌, true, List, ◌++◌, map, length, take, drop, Ok, Err, codes, decimal, Some, None, Option, Result}
+use Rattle.std.specs.Prelude.{◌≡◌, ℕ, ◌+◌, ◌<◌, true, List, ◌++◌, map, length, take, drop, Ok, Err, codes, decimal, Some, None, Option, Result, IfSome}
 use Rattle.std.specs.Io.KnownBytes.{Appends}
 use Rattle.std.specs.List.{flat_map, AllByRecursion}
 use Rattle.snapshot.specs.Accounts.{Account, head_of, lawful}
@@ -76,6 +76,10 @@ listing_text heads ending = flat_map head_line heads ++ ending_line (length head
 -- only so many bytes of an input count
 abbrev pub most_bytes : ℕ
 most_bytes = 65536
+
+-- the bytes are those of the input that count, where its bytes are known
+pub record IsFrontOf (input : Option (List ℕ)) (bytes : List ℕ) : Type 0 where
+  pub front : IfSome input (λ rest. bytes ≡ take most_bytes rest)
 
 -- the text is that of a listing of this book
 pub record ListsBook (book text : List ℕ) : Type 0 where

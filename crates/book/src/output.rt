@@ -1,7 +1,7 @@
 // From an input to an output: the listing of the book that the input has.
-ghost use Rattle.std.specs.Prelude.{◌≡◌, ℕ, IfOk, IfSome, MatchResult, OnErr, OnOk, string_bytes, take};
+ghost use Rattle.std.specs.Prelude.{ℕ, IfOk, IfSome, MatchResult, OnErr, OnOk, string_bytes, take};
 ghost use Rattle.std.specs.Io.KnownBytes.{Appends};
-ghost use Rattle.book.specs.Books.{GainsFront, GainsListing, ListsBook, most_bytes};
+ghost use Rattle.book.specs.Books.{GainsFront, GainsListing, IsFrontOf, ListsBook, most_bytes};
 
 use crate::listing::{Listing, read_book};
 use std::alloc::Global;
@@ -38,8 +38,9 @@ fn read_listing<R: Read + Drop>(heap: Global, input: R) -> io::Result<String>
 }
 
 // The bytes of the input that count.
+#[tactic(auto, using(crate::proofs::Outputs::known_front))]
 fn first_bytes<R: Read + Drop>(heap: Global, input: R) -> io::Result<Vec<u8>>
-    ensures { IfOk result (λ bytes. IfSome (R.Read.remaining input) (λ rest. bytes.items ≡ take most_bytes rest)) }
+    ensures { IfOk result (λ bytes. IsFrontOf (R.Read.remaining input) bytes.items) }
 {
     let mut bytes = Vec::new(heap);
     let _ = input.take(MOST_BYTES).read_to_end(&mut bytes)?;
