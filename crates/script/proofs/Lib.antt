@@ -2,5 +2,6 @@ pub mod NumberProofs
 pub mod HexProofs
 pub mod BookProofs
 pub mod ListProofs
+pub mod WritingProofs
 pub mod PlayProofs
 pub mod TraceProofs

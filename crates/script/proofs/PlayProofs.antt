@@ -1,37 +1,21 @@
 -- What is still to be printed, while lines are played.
-use Rattle.std.proofs.Common.{◌≡◌, ℕ, ◌==◌, cond, List, [], ◌∷◌, ◌++◌, length, map, Option, Some, None, ◌<◌, Bool, true, false, eqb, refl, sym, ap, ◌∙◌, append-nil, append_assoc, subst, arith}
+use Rattle.std.proofs.Common.{◌≡◌, ℕ, ◌+◌, ◌-◌, ◌^◌, ◌≤◌, ◌==◌, cond, List, [], ◌∷◌, ◌++◌, length, map, Option, Some, None, ◌<◌, Bool, true, false, eqb, refl, sym, ap, ◌∙◌, append-nil, append_assoc, subst, arith, length-append}
 use Rattle.std.proofs.lemmas.Bool.Decides.{nat_tests}
 use Rattle.std.specs.Io.BufRead.{drop_through, take_through}
 use Rattle.std.specs.Io.KnownBytes.{Appends}
 use Rattle.std.specs.List.{onto_first}
-use Rattle.std.specs.Prelude.{IfSome, OnOk, Result, Ok, Err, if◌then◌else◌}
+use Rattle.std.specs.Prelude.{IfSome, Result, Ok, Err, if◌then◌else◌}
+use Rattle.script.specs.Failures.{AppendsFront, IsInput, LeavesUnplayed, LeavesUnwritten}
 use Rattle.script.specs.Lines.{line_of}
-use Rattle.script.specs.Played.{lines_of, said_in}
+use Rattle.script.specs.Played.{Prints, lines_of, parsed_lines}
+use Rattle.script.specs.declared.error.PlayError.{PlayError}
+use Rattle.script.specs.declared.error.PlayError.TheVariants.{Input, Output, Memory, TooManyLines}
 use Rattle.script.specs.declared.line.Line.{Line}
-
-pub nothing : (a : Option (List ℕ)) → Appends a a []
-nothing None = tt
-nothing (Some xs) = sym (append-nil xs)
-
-both : (a b c : Option (List ℕ)) (s t : List ℕ) → Appends a b s → Appends b c t → Appends a c (s ++ t)
-both None b c s t p q = tt
-both (Some x) None c s t p q = absurd p
-both (Some x) (Some y) None s t p q = absurd q
-both (Some x) (Some y) (Some z) s t p q = q ∙ (ap (λ l. l ++ t) p ∙ append_assoc x s t)
+use Rattle.script.proofs.WritingProofs.{both, nothing}
 
 -- what the next line says
-abbrev pub next_said : List ℕ → Option Line
-next_said rest = if length rest == 0 then None else Some (line_of (take_through 10 rest))
-
--- the input has `rest` left; where the output grows by what that prints, it has grown by the whole
-pub record Going (now : Option (List ℕ)) (old cur : Option (List ℕ)) (whole : List ℕ) (left : List ℕ → List ℕ) : Type 0 where
-  pub rest : List ℕ
-  pub known : now ≡ Some rest
-  pub owes : (new : Option (List ℕ)) → Appends cur new (left rest) → Appends old new whole
-
-pub begins : (now old : Option (List ℕ)) (left : List ℕ → List ℕ) → IfSome now (λ rest. Going now old old (left rest) left)
-begins None old left = tt
-begins (Some xs) old left = record { rest = xs; known = refl; owes = λ new a. a }
+abbrev pub next_parsed : List ℕ → Option Line
+next_parsed rest = if length rest == 0 then None else Some (line_of (take_through 10 rest))
 
 -- The first line of what is left.
 
@@ -44,76 +28,197 @@ pub first_line : (bs : List ℕ) → 0 < length bs → lines_of bs ≡ take_thro
 first_line [] some = absurd (omega arith)
 first_line (b ∷ bs) some = line_by b bs (eqb b 10) (λ more. first_line bs more)
 
--- What the reading of a line says of what is left.
+-- What the line that was read says of the lines that are left.
 
 none_some : {X : Type 0} (x : X) → ◌≡◌ {A = Option X} None (Some x) → ⊥
 none_some x e = cc
 
-has_line : (b : ℕ) (bs : List ℕ) → next_said (b ∷ bs) ≡ Some (line_of (take_through 10 (b ∷ bs)))
+has_line : (b : ℕ) (bs : List ℕ) → next_parsed (b ∷ bs) ≡ Some (line_of (take_through 10 (b ∷ bs)))
 has_line b bs = grind (arith, nat_tests)
 
-ended : (rest : List ℕ) → next_said rest ≡ None → rest ≡ []
+ended : (rest : List ℕ) → next_parsed rest ≡ None → rest ≡ []
 ended [] e = refl
 ended (b ∷ bs) e = absurd (none_some _ (sym e ∙ has_line b bs))
 
-said_is : (x l : Line) (o : Option Line) → o ≡ Some x → o ≡ Some l → x ≡ l
-said_is x l o p q = cc
+same_line : (x l : Line) (o : Option Line) → o ≡ Some x → o ≡ Some l → x ≡ l
+same_line x l o p q = cc
 
-said : (rest : List ℕ) (l : Line) → next_said rest ≡ Some l → said_in rest ≡ l ∷ said_in (drop_through 10 rest)
-said [] l e = absurd (none_some l e)
-said (b ∷ bs) l e =
-    let same = said_is (line_of (take_through 10 (b ∷ bs))) l (next_said (b ∷ bs)) (has_line b bs) e in
-    ap (map line_of) (first_line (b ∷ bs) (omega arith)) ∙ ap (λ x. x ∷ said_in (drop_through 10 (b ∷ bs))) same
+parsed : (rest : List ℕ) (l : Line) → next_parsed rest ≡ Some l → parsed_lines rest ≡ l ∷ parsed_lines (drop_through 10 rest)
+parsed [] l e = absurd (none_some l e)
+parsed (b ∷ bs) l e =
+    let same = same_line (line_of (take_through 10 (b ∷ bs))) l (next_parsed (b ∷ bs)) (has_line b bs) e in
+    ap (map line_of) (first_line (b ∷ bs) (omega arith)) ∙ ap (λ x. x ∷ parsed_lines (drop_through 10 (b ∷ bs))) same
+
+-- some bytes were read, and they are the next line
+pub line_read : (left : Option (List ℕ)) (old items bytes : List ℕ) (count : ℕ) (l : Line) → old ≡ [] → (count ≡ 0 → ⊥) → length bytes ≡ count → IfSome left (λ rest. items ≡ old ++ take_through 10 rest) → bytes ≡ items → l ≡ line_of bytes → IfSome left (λ rest. Some l ≡ next_parsed rest)
+line_read None old items bytes count l empty some size reads same is = tt
+line_read (Some []) old items bytes count l empty some size reads same is =
+    let none : bytes ≡ [] = same ∙ rw empty at reads in
+    absurd (some (sym size ∙ ap length none))
+line_read (Some (b ∷ bs)) old items bytes count l empty some size reads same is =
+    let all : bytes ≡ take_through 10 (b ∷ bs) = same ∙ rw empty at reads in
+    ap Some (is ∙ ap line_of all) ∙ sym (has_line b bs)
+
+-- Fronts of texts.
+
+-- a front of what stands behind a text that was written
+further : (P : List ℕ → Type 0) (old cur new : Option (List ℕ)) (front text whole : List ℕ) → whole ≡ front ++ text → Appends old cur front → AppendsFront P cur new text → AppendsFront P old new whole
+further P old cur new front text whole splits wrote part =
+    (front ++ part.0, part.1, splits ∙ (ap (λ t. front ++ t) part.2 ∙ sym (append_assoc front part.0 part.1)), part.3, both old cur new front part.0 wrote part.4)
+
+-- a front of a text is one of a longer text
+longer : (P Q : List ℕ → Type 0) (cur new : Option (List ℕ)) (text more : List ℕ) → ((rest : List ℕ) → P rest → Q (rest ++ more)) → AppendsFront P cur new text → AppendsFront Q cur new (text ++ more)
+longer P Q cur new text more grows part =
+    (part.0, part.1 ++ more, ap (λ t. t ++ more) part.2 ∙ append_assoc part.0 part.1 more, grows part.1 part.3, part.4)
+
+unplayed : (e : PlayError) (lines : ℕ) (more rest : List ℕ) → LeavesUnwritten e rest → LeavesUnplayed e lines (rest ++ more)
+unplayed (Input f) lines more rest left = absurd left
+unplayed (Output f) lines more rest left = omega (arith, length-append rest more)
+unplayed Memory lines more rest left = omega (arith, length-append rest more)
+unplayed TooManyLines lines more rest left = absurd left
+
+-- The input has `rest` left, the output has grown by `front`, and both together make the whole; so many lines there are, and so
+-- many were read.
+pub record Going (now old cur : Option (List ℕ)) (whole : List ℕ) (left : List ℕ → List ℕ) (lines read : ℕ) : Type 0 where
+  pub rest : List ℕ
+  pub known : now ≡ Some rest
+  pub front : List ℕ
+  pub splits : whole ≡ front ++ left rest
+  pub wrote : Appends old cur front
+  pub counted : lines ≡ read + length (lines_of rest)
+
+pub begins : (now old : Option (List ℕ)) (left : List ℕ → List ℕ) (read : ℕ) → IfSome now (λ rest. Going now old old (left rest) left (read + length (lines_of rest)) read)
+begins None old left read = tt
+begins (Some xs) old left read = record { rest = xs; known = refl; front = []; splits = refl; wrote = nothing old; counted = refl }
 
 -- nothing is left
-pub done : (now old cur : Option (List ℕ)) (whole : List ℕ) (left : List ℕ → List ℕ) (read : Option Line) → Going now old cur whole left → IfSome now (λ rest. read ≡ next_said rest) → read ≡ None → left [] ≡ [] → Appends old cur whole
-done now old cur whole left read going says none empty =
-    let reads : read ≡ next_said going.rest = rw going.known at says in
-    let all = ended going.rest (sym reads ∙ none) in
-    going.owes cur (subst (λ t. Appends cur cur t) (sym (ap left all ∙ empty)) (nothing cur))
+all_played : (now old cur : Option (List ℕ)) (whole : List ℕ) (left : List ℕ → List ℕ) (lines read : ℕ) (next : Option Line) → Going now old cur whole left lines read → IfSome now (λ rest. next ≡ next_parsed rest) → next ≡ None → left [] ≡ [] → Appends old cur whole
+all_played now old cur whole left lines read next going reads none empty =
+    let is_next : next ≡ next_parsed going.rest = rw going.known at reads in
+    let all = ended going.rest (sym is_next ∙ none) in
+    let same : whole ≡ going.front = going.splits ∙ (ap (λ t. going.front ++ t) (ap left all ∙ empty) ∙ append-nil going.front) in
+    subst (λ t. Appends old cur t) (sym same) going.wrote
 
--- one line more
-pub one_line : (now after old cur new : Option (List ℕ)) (whole : List ℕ) (left left_after : List ℕ → List ℕ) (read : Option Line) (l : Line) (text : List ℕ) → Going now old cur whole left → IfSome now (λ rest. read ≡ next_said rest) → IfSome now (λ rest. after ≡ Some (drop_through 10 rest)) → read ≡ Some l → Appends cur new text → ((rest : List ℕ) → said_in rest ≡ l ∷ said_in (drop_through 10 rest) → left rest ≡ text ++ left_after (drop_through 10 rest)) → Going after old new whole left_after
-one_line now after old cur new whole left left_after read l text going says drops some wrote step =
-    let reads : read ≡ next_said going.rest = rw going.known at says in
-    let dropped : after ≡ Some (drop_through 10 going.rest) = rw going.known at drops in
-    let lines = said going.rest l (sym reads ∙ some) in
+-- the line that was read, and what it adds to the text
+record Next (now after : Option (List ℕ)) (left left_after : List ℕ → List ℕ) (text : List ℕ) (rest : List ℕ) : Type 0 where
+  pub dropped : after ≡ Some (drop_through 10 rest)
+  pub adds : left rest ≡ text ++ left_after (drop_through 10 rest)
+  pub one_fewer : length (lines_of rest) ≡ 1 + length (lines_of (drop_through 10 rest))
+
+fewer : (rest : List ℕ) (l : Line) → next_parsed rest ≡ Some l → length (lines_of rest) ≡ 1 + length (lines_of (drop_through 10 rest))
+fewer [] l e = absurd (none_some l e)
+fewer (b ∷ bs) l e = ap length (first_line (b ∷ bs) (omega arith)) ∙ omega arith
+
+next_line : (now after : Option (List ℕ)) (left left_after : List ℕ → List ℕ) (rest : List ℕ) (next : Option Line) (l : Line) (text : List ℕ) → now ≡ Some rest → IfSome now (λ rest. next ≡ next_parsed rest) → IfSome now (λ rest. after ≡ Some (drop_through 10 rest)) → next ≡ Some l → ((rest : List ℕ) → parsed_lines rest ≡ l ∷ parsed_lines (drop_through 10 rest) → left rest ≡ text ++ left_after (drop_through 10 rest)) → Next now after left left_after text rest
+next_line now after left left_after rest next l text known reads drops some step =
+    let is_next : next ≡ next_parsed rest = rw known at reads in
+    let dropped : after ≡ Some (drop_through 10 rest) = rw known at drops in
+    record { dropped = dropped; adds = step rest (parsed rest l (sym is_next ∙ some)); one_fewer = fewer rest l (sym is_next ∙ some) }
+
+one_line : (now after old cur new : Option (List ℕ)) (whole : List ℕ) (left left_after : List ℕ → List ℕ) (lines read : ℕ) (text : List ℕ) (going : Going now old cur whole left lines read) → Next now after left left_after text going.rest → Appends cur new text → Going after old new whole left_after lines (read + 1)
+one_line now after old cur new whole left left_after lines read text going next wrote =
+    let behind = left_after (drop_through 10 going.rest) in
     record {
       rest = drop_through 10 going.rest;
-      known = dropped;
-      owes = λ next a.
-          going.owes next
-          (subst (λ t. Appends cur next t) (sym (step going.rest lines)) (both cur new next text (left_after (drop_through 10 going.rest)) wrote a));
+      known = next.dropped;
+      front = going.front ++ text;
+      splits = going.splits ∙ (ap (λ t. going.front ++ t) next.adds ∙ sym (append_assoc going.front text behind));
+      wrote = both old cur new going.front text going.wrote wrote;
+      counted = omega (arith, going.counted, next.one_fewer);
     }
 
--- what is left is printed, and so the whole
-pub the_rest : (now old cur new : Option (List ℕ)) (whole : List ℕ) (left : List ℕ → List ℕ) → Going now old cur whole left → IfSome now (λ rest. Appends cur new (left rest)) → Appends old new whole
-the_rest now old cur new whole left going prints = going.owes new (rw going.known at prints)
+-- The same where it is not known whether the input's bytes are known. `lines` were read before the first of these lines.
 
--- The same where it is not known whether the input's bytes are known.
+-- a playing that is going on
+abbrev pub Playing : Option (List ℕ) → Option (List ℕ) → Option (List ℕ) → Option (List ℕ) → (List ℕ → List ℕ) → (List ℕ → List ℕ) → ℕ → ℕ → Type 0
+Playing start now old cur whole left lines read =
+    IfSome start (λ first. Going now old cur (whole first) left (lines + length (lines_of first)) read)
 
-pub ends : (start now old cur : Option (List ℕ)) (whole left : List ℕ → List ℕ) (read : Option Line) → IfSome start (λ first. Going now old cur (whole first) left) → IfSome now (λ rest. read ≡ next_said rest) → read ≡ None → left [] ≡ [] → IfSome start (λ first. Appends old cur (whole first))
-ends None now old cur whole left read going says none empty = tt
-ends (Some first) now old cur whole left read going says none empty = done now old cur (whole first) left read going says none empty
+pub ends : (start now old cur : Option (List ℕ)) (whole left : List ℕ → List ℕ) (lines read : ℕ) (next : Option Line) → Playing start now old cur whole left lines read → IfSome now (λ rest. next ≡ next_parsed rest) → next ≡ None → left [] ≡ [] → IfSome start (λ first. Appends old cur (whole first))
+ends None now old cur whole left lines read next going reads none empty = tt
+ends (Some first) now old cur whole left lines read next going reads none empty =
+    all_played now old cur (whole first) left _ read next going reads none empty
 
-pub steps : (start now after old cur new : Option (List ℕ)) (whole left left_after : List ℕ → List ℕ) (read : Option Line) (l : Line) (text : List ℕ) → IfSome start (λ first. Going now old cur (whole first) left) → IfSome now (λ rest. read ≡ next_said rest) → IfSome now (λ rest. after ≡ Some (drop_through 10 rest)) → read ≡ Some l → Appends cur new text → ((rest : List ℕ) → said_in rest ≡ l ∷ said_in (drop_through 10 rest) → left rest ≡ text ++ left_after (drop_through 10 rest)) → IfSome start (λ first. Going after old new (whole first) left_after)
-steps None now after old cur new whole left left_after read l text going says drops some wrote step = tt
-steps (Some first) now after old cur new whole left left_after read l text going says drops some wrote step =
-    one_line now after old cur new (whole first) left left_after read l text going says drops some wrote step
+pub steps : (start now after old cur new : Option (List ℕ)) (whole left left_after : List ℕ → List ℕ) (lines read : ℕ) (next : Option Line) (l : Line) (text : List ℕ) → Playing start now old cur whole left lines read → IfSome now (λ rest. next ≡ next_parsed rest) → IfSome now (λ rest. after ≡ Some (drop_through 10 rest)) → next ≡ Some l → Appends cur new text → ((rest : List ℕ) → parsed_lines rest ≡ l ∷ parsed_lines (drop_through 10 rest) → left rest ≡ text ++ left_after (drop_through 10 rest)) → Playing start after old new whole left_after lines (read + 1)
+steps None now after old cur new whole left left_after lines read next l text going reads drops some wrote step = tt
+steps (Some first) now after old cur new whole left left_after lines read next l text going reads drops some wrote step =
+    one_line now after old cur new (whole first) left left_after _ read text going
+    (next_line now after left left_after going.rest next l text going.known reads drops some step)
+    wrote
+
+-- An error, and the front that was printed before it.
+
+failed : (r : Result (Unit {0}) PlayError) (e : PlayError) (lines : ℕ) (start old cur : Option (List ℕ)) (whole : List ℕ → List ℕ) → r ≡ Err e → IfSome start (λ first. AppendsFront (LeavesUnplayed e (lines + length (lines_of first))) old cur (whole first)) → Prints r lines start old cur whole
+failed r e lines start old cur whole is front = subst (λ r'. Prints r' lines start old cur whole) (sym is) front
+
+so_far : (e : PlayError) (start now old cur : Option (List ℕ)) (whole left : List ℕ → List ℕ) (lines read : ℕ) → Playing start now old cur whole left lines read → ((first rest : List ℕ) → lines + length (lines_of first) ≡ read + length (lines_of rest) → LeavesUnplayed e (lines + length (lines_of first)) (left rest)) → IfSome start (λ first. AppendsFront (LeavesUnplayed e (lines + length (lines_of first))) old cur (whole first))
+so_far e None now old cur whole left lines read going leaves = tt
+so_far e (Some first) now old cur whole left lines read going leaves =
+    (going.front, left going.rest, going.splits, leaves first going.rest going.counted, going.wrote)
+
+input_leaves : (e : PlayError) (lines : ℕ) (rest : List ℕ) → IsInput e → LeavesUnplayed e lines rest
+input_leaves (Input f) lines rest is = tt
+input_leaves (Output f) lines rest is = absurd is
+input_leaves Memory lines rest is = absurd is
+input_leaves TooManyLines lines rest is = absurd is
+
+-- the next line could not be read
+pub unread : (r : Result (Unit {0}) PlayError) (e : PlayError) (start now old cur : Option (List ℕ)) (whole left : List ℕ → List ℕ) (lines read : ℕ) → r ≡ Err e → IsInput e → Playing start now old cur whole left lines read → Prints r lines start old cur whole
+unread r e start now old cur whole left lines read is input going =
+    failed r e lines start old cur whole is (so_far e start now old cur whole left lines read going (λ first rest same. input_leaves e _ (left rest) input))
+
+-- the lines could not be counted
+pub uncounted : (start now old cur : Option (List ℕ)) (whole left : List ℕ → List ℕ) (lines read : ℕ) → 2 ^ 64 - 1 ≤ read → Playing start now old cur whole left lines read → Prints (Err TooManyLines) lines start old cur whole
+uncounted start now old cur whole left lines read many going =
+    so_far TooManyLines start now old cur whole left lines read going (λ first rest same. omega (arith, same, many))
+
+-- what the line adds could not be written
+pub unwritten : (r : Result (Unit {0}) PlayError) (e : PlayError) (start now after old cur new : Option (List ℕ)) (whole left left_after : List ℕ → List ℕ) (lines read : ℕ) (next : Option Line) (l : Line) (text : List ℕ) → r ≡ Err e → Playing start now old cur whole left lines read → IfSome now (λ rest. next ≡ next_parsed rest) → IfSome now (λ rest. after ≡ Some (drop_through 10 rest)) → next ≡ Some l → AppendsFront (LeavesUnwritten e) cur new text → ((rest : List ℕ) → parsed_lines rest ≡ l ∷ parsed_lines (drop_through 10 rest) → left rest ≡ text ++ left_after (drop_through 10 rest)) → Prints r lines start old new whole
+unwritten r e None now after old cur new whole left left_after lines read next l text is going reads drops some part step = failed r e lines None old new whole is tt
+unwritten r e (Some first) now after old cur new whole left left_after lines read next l text is going reads drops some part step =
+    let here = next_line now after left left_after going.rest next l text going.known reads drops some step in
+    let total = lines + length (lines_of first) in
+    let behind = left_after (drop_through 10 going.rest) in
+    failed r e lines (Some first) old new whole is
+    (further (LeavesUnplayed e total) old cur new going.front (text ++ behind) (whole first)
+     (going.splits ∙ ap (λ t. going.front ++ t) here.adds)
+     going.wrote
+     (longer (LeavesUnwritten e) (LeavesUnplayed e total) cur new text behind (unplayed e total behind) part))
 
 -- the line is played by a call that plays all that is left
-pub closes : (start now after old cur new : Option (List ℕ)) (whole left left_after : List ℕ → List ℕ) (read : Option Line) (l : Line) → IfSome start (λ first. Going now old cur (whole first) left) → IfSome now (λ rest. read ≡ next_said rest) → IfSome now (λ rest. after ≡ Some (drop_through 10 rest)) → read ≡ Some l → IfSome after (λ rest. Appends cur new (left_after rest)) → ((rest : List ℕ) → said_in rest ≡ l ∷ said_in (drop_through 10 rest) → left rest ≡ left_after (drop_through 10 rest)) → IfSome start (λ first. Appends old new (whole first))
-closes None now after old cur new whole left left_after read l going says drops some prints step = tt
-closes (Some first) now after old cur new whole left left_after read l going says drops some prints step =
-    let more = one_line now after old cur cur (whole first) left left_after read l [] going says drops some (nothing cur) step in
-    the_rest after old cur new (whole first) left_after more prints
+pub closes : (r : Result (Unit {0}) PlayError) (start now after old cur new : Option (List ℕ)) (whole left left_after : List ℕ → List ℕ) (lines read : ℕ) (next : Option Line) (l : Line) → Playing start now old cur whole left lines read → IfSome now (λ rest. next ≡ next_parsed rest) → IfSome now (λ rest. after ≡ Some (drop_through 10 rest)) → next ≡ Some l → Prints r (read + 1) after cur new left_after → ((rest : List ℕ) → parsed_lines rest ≡ l ∷ parsed_lines (drop_through 10 rest) → left rest ≡ left_after (drop_through 10 rest)) → Prints r lines start old new whole
+closes (Ok u) None now after old cur new whole left left_after lines read next l going reads drops some prints step = tt
+closes (Err e) None now after old cur new whole left left_after lines read next l going reads drops some prints step = tt
+closes (Ok u) (Some first) now after old cur new whole left left_after lines read next l going reads drops some prints step =
+    let here = next_line now after left left_after going.rest next l [] going.known reads drops some step in
+    let behind = left_after (drop_through 10 going.rest) in
+    let wrote : Appends cur new behind = rw here.dropped at prints in
+    subst (λ t. Appends old new t) (sym (going.splits ∙ ap (λ t. going.front ++ t) here.adds)) (both old cur new going.front behind going.wrote wrote)
+closes (Err e) (Some first) now after old cur new whole left left_after lines read next l going reads drops some prints step =
+    let here = next_line now after left left_after going.rest next l [] going.known reads drops some step in
+    let behind = left_after (drop_through 10 going.rest) in
+    let count = read + 1 + length (lines_of (drop_through 10 going.rest)) in
+    let part : AppendsFront (LeavesUnplayed e count) cur new behind = rw here.dropped at prints in
+    let same : count ≡ lines + length (lines_of first) = omega (arith, going.counted, here.one_fewer) in
+    further (LeavesUnplayed e (lines + length (lines_of first))) old cur new going.front behind (whole first)
+    (going.splits ∙ ap (λ t. going.front ++ t) here.adds)
+    going.wrote
+    (subst (λ n. AppendsFront (LeavesUnplayed e n) cur new behind) same part)
 
 -- a text is printed, and then what is left
-pub line_then : (now old cur new : Option (List ℕ)) (text : List ℕ) (left whole : List ℕ → List ℕ) → Appends old cur text → IfSome now (λ rest. Appends cur new (left rest)) → ((rest : List ℕ) → whole rest ≡ text ++ left rest) → IfSome now (λ rest. Appends old new (whole rest))
-line_then None old cur new text left whole wrote prints step = tt
-line_then (Some rest) old cur new text left whole wrote prints step =
+pub line_then : (r : Result (Unit {0}) PlayError) (lines : ℕ) (now old cur new : Option (List ℕ)) (text : List ℕ) (left whole : List ℕ → List ℕ) → Appends old cur text → Prints r lines now cur new left → ((rest : List ℕ) → whole rest ≡ text ++ left rest) → Prints r lines now old new whole
+line_then (Ok u) lines None old cur new text left whole wrote prints step = tt
+line_then (Err e) lines None old cur new text left whole wrote prints step = tt
+line_then (Ok u) lines (Some rest) old cur new text left whole wrote prints step =
     subst (λ t. Appends old new t) (sym (step rest)) (both old cur new text (left rest) wrote prints)
+line_then (Err e) lines (Some rest) old cur new text left whole wrote prints step =
+    further (LeavesUnplayed e (lines + length (lines_of rest))) old cur new text (left rest) (whole rest) (step rest) wrote prints
 
-pub on_ok : {X E : Type 0} (r : Result X E) (P Q : Type 0) → OnOk r P → (P → Q) → OnOk r Q
-on_ok (Ok x) P Q p f = f p
-on_ok (Err e) P Q p f = tt
+-- the first text could not be written
+pub line_unwritten : (r : Result (Unit {0}) PlayError) (e : PlayError) (lines : ℕ) (now old cur : Option (List ℕ)) (text : List ℕ) (left whole : List ℕ → List ℕ) → r ≡ Err e → AppendsFront (LeavesUnwritten e) old cur text → ((rest : List ℕ) → whole rest ≡ text ++ left rest) → Prints r lines now old cur whole
+line_unwritten r e lines None old cur text left whole is part step = failed r e lines None old cur whole is tt
+line_unwritten r e lines (Some rest) old cur text left whole is part step =
+    let total = lines + length (lines_of rest) in
+    let front = longer (LeavesUnwritten e) (LeavesUnplayed e total) old cur text (left rest) (unplayed e total (left rest)) part in
+    failed r e lines (Some rest) old cur whole is
+    (subst (λ t. AppendsFront (LeavesUnplayed e total) old cur t) (sym (step rest)) front)

@@ -8,7 +8,7 @@ use Rattle.engine_model.specs.Engines.{Engine, new_engine}
 use Rattle.engine_model.specs.Traces.{NewStore, new_newest, new_table}
 use Rattle.engine.specs.Performing.{engine_after_calls, answers_to, performed}
 use Rattle.engine.proofs.TraceLemmas.{run_keeps_law}
-use Rattle.script.specs.Played.{shown_result, played, played_on, said_in, result_line, bad_line}
+use Rattle.script.specs.Played.{shown_result, played, played_on, parsed_lines, result_line, bad_line}
 use Rattle.script.specs.ScriptTraces.{PrintsTrace, ShowsTrace, ShowsTraces, ShowsTableTrace, calls_in, text_with}
 use Rattle.script.specs.Shown.{request_text}
 use Rattle.script.specs.declared.line.Line.{Line}
@@ -63,4 +63,4 @@ shows_traces number (line.Call request ∷ lines) = shows_table_trace most_recor
 
 pub prints_trace : (script : Option (List ℕ)) → IfSome script PrintsTrace
 prints_trace None = tt
-prints_trace (Some script) = shows_traces 1 (said_in script)
+prints_trace (Some script) = shows_traces 1 (parsed_lines script)

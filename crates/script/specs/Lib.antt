@@ -4,4 +4,5 @@ pub mod Requests
 pub mod Lines
 pub mod Shown
 pub mod Played
+pub mod Failures
 pub mod ScriptTraces

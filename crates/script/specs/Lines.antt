@@ -80,20 +80,20 @@ abbrev pub request_with : List ℕ → Option (List ℕ) → Option Request
 request_with word None = None
 request_with word (Some numbers) = request_of word numbers
 
-abbrev pub said_of : List ℕ → List (List ℕ) → Option Line
-said_of first others =
+abbrev pub store_or_call : List ℕ → List (List ℕ) → Option Line
+store_or_call first others =
     if bytes_eq first (codes "store") then store_line (store_of others)
     else call_line (request_with first (numbers_of others))
 
 -- a line is bad where it says nothing else
 abbrev pub or_bad : Option Line → Line
 or_bad None = line.Bad
-or_bad (Some said) = said
+or_bad (Some parsed) = parsed
 
 -- a line is blank where it has no word, and where its first word begins with `#`
 abbrev pub line_with : List (List ℕ) → Line
 line_with [] = line.Blank
-line_with (first ∷ others) = if slice_index first 0 == 35 then line.Blank else or_bad (said_of first others)
+line_with (first ∷ others) = if slice_index first 0 == 35 then line.Blank else or_bad (store_or_call first others)
 
 abbrev pub line_of : List ℕ → Line
 line_of bytes = line_with (first_words bytes)

@@ -1,5 +1,5 @@
 -- What a script prints: each call with what the rules draw for it, and the number of each bad line.
-use Rattle.std.specs.Prelude.{ℕ, ◌+◌, ◌==◌, min, if◌then◌else◌, List, [], ◌∷◌, ◌++◌, Result, Ok, Err, codes, decimal, map, Option, IfSome, OnOk}
+use Rattle.std.specs.Prelude.{ℕ, ◌+◌, ◌==◌, min, if◌then◌else◌, List, [], ◌∷◌, ◌++◌, Result, Ok, Err, codes, decimal, length, map, Option, IfSome}
 use Rattle.std.specs.Io.KnownBytes.{Appends}
 use Rattle.std.specs.List.{onto_first}
 use Rattle.snapshot.specs.Limits.{key_count, most_records}
@@ -12,8 +12,10 @@ use Rattle.engine_model.specs.Engines.{Engine, new_engine}
 use Rattle.engine.specs.Performing.{performed}
 use Rattle.engine.specs.declared.answer.Answer.{Answer}
 use Rattle.engine.specs.declared.answer.Answer.TheVariants as answer
+use Rattle.script.specs.Failures.{AppendsFront, LeavesUnplayed}
 use Rattle.script.specs.Lines.{line_of}
 use Rattle.script.specs.Shown.{outcome_text, request_text, store_text}
+use Rattle.script.specs.declared.error.PlayError.{PlayError}
 use Rattle.script.specs.declared.line.Line.{Line}
 use Rattle.script.specs.declared.line.Line.TheVariants as line
 use Rattle.script.specs.declared.line.StoreKind.TheVariants.{Newest, Table}
@@ -24,8 +26,8 @@ lines_of [] = []
 lines_of (b ∷ bs) = if b == 10 then (b ∷ []) ∷ lines_of bs else onto_first b (lines_of bs)
 
 -- what the lines say
-abbrev pub said_in : List ℕ → List Line
-said_in script = map line_of (lines_of script)
+abbrev pub parsed_lines : List ℕ → List Line
+parsed_lines script = map line_of (lines_of script)
 
 -- a call and what it came to
 abbrev pub result_line : List ℕ → Result Answer Fault → List ℕ
@@ -84,9 +86,12 @@ played number (line.Call request ∷ lines) =
 
 -- what a script prints
 abbrev pub printed : List ℕ → List ℕ
-printed script = played 1 (said_in script)
+printed script = played 1 (parsed_lines script)
 
--- An accepted call printed what this draws from the bytes that the input had left. Where the bytes of the input or of the output
--- are not known, as at a terminal, it says nothing.
-abbrev pub Prints : {X E : Type 0} → Result X E → Option (List ℕ) → Option (List ℕ) → Option (List ℕ) → (List ℕ → List ℕ) → Type 0
-Prints result left before after text = OnOk result (IfSome left (λ rest. Appends before after (text rest)))
+-- What a call printed of the text that this draws from the bytes which the input had left, when so many lines had been read
+-- before: all of it, or, with an error that says why, a front of it. Where the bytes of the input or of the output are not
+-- known, as at a terminal, it says nothing.
+abbrev pub Prints : Result (Unit {0}) PlayError → ℕ → Option (List ℕ) → Option (List ℕ) → Option (List ℕ) → (List ℕ → List ℕ) → Type 0
+Prints (Ok u) lines left before after text = IfSome left (λ rest. Appends before after (text rest))
+Prints (Err e) lines left before after text =
+    IfSome left (λ rest. AppendsFront (LeavesUnplayed e (lines + length (lines_of rest))) before after (text rest))

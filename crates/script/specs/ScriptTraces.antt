@@ -9,7 +9,7 @@ use Rattle.engine_model.specs.declared.calls.Call.{Call}
 use Rattle.engine.specs.EngineLaw.{TraceOfRun}
 use Rattle.engine.specs.declared.answer.Answer.{Answer}
 use Rattle.engine.specs.declared.answer.Answer.TheVariants as answer
-use Rattle.script.specs.Played.{check_result, shown_result, printed, said_in, result_line, bad_line}
+use Rattle.script.specs.Played.{check_result, shown_result, printed, parsed_lines, result_line, bad_line}
 use Rattle.script.specs.Shown.{request_text, store_text}
 use Rattle.script.specs.declared.line.Line.{Line}
 use Rattle.script.specs.declared.line.Line.TheVariants as line
@@ -63,4 +63,4 @@ ShowsTraces number (line.Call request ∷ lines) text = ShowsTableTrace most_rec
 
 -- what a script prints shows a trace that keeps the law
 abbrev pub PrintsTrace : List ℕ → Type 0
-PrintsTrace script = ShowsTraces 1 (said_in script) (printed script)
+PrintsTrace script = ShowsTraces 1 (parsed_lines script) (printed script)

@@ -1,6 +1,6 @@
 // What a line of a script says, from its bytes.
 ghost use Rattle.std.specs.Prelude.{◌≡◌, ◌≤◌, length, map};
-ghost use Rattle.script.specs.Lines.{items_of, line_of, numbers_of, said_of, store_of};
+ghost use Rattle.script.specs.Lines.{items_of, line_of, numbers_of, store_or_call, store_of};
 
 use crate::line::{Line, StoreKind};
 use crate::number::number_in;
@@ -21,13 +21,13 @@ pub fn parse(line: &[u8]) -> Line
     if first.first() == Some(&b'#') {
         return Line::Blank;
     }
-    said(first, others).unwrap_or(Line::Bad)
+    store_or_call(first, others).unwrap_or(Line::Bad)
 }
 
 // What a line with this first word and these others says; none if it is bad.
-fn said(first: &[u8], others: &[&[u8]]) -> Option<Line>
+fn store_or_call(first: &[u8], others: &[&[u8]]) -> Option<Line>
     requires { length others.now ≤ 7 }
-    ensures { result ≡ said_of first.now (map (λ word. word.now) others.now) }
+    ensures { result ≡ store_or_call first.now (map (λ word. word.now) others.now) }
 {
     if first == b"store".as_slice() {
         return Some(Line::Store(store(others)?));

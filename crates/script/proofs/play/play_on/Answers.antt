@@ -1,50 +1,122 @@
--- Each line prints what the rules draw for it, and the last leaves nothing.
-use Rattle.std.proofs.Common.{◌+◌, ◌++◌, refl, sym, ap, ◌∙◌}
+-- Each line prints what the rules draw for it, the last leaves nothing, and an error leaves what it says.
+use Rattle.std.proofs.Common.{◌≡◌, ◌+◌, ◌-◌, ◌^◌, ◌≤◌, ◌++◌, Err, refl, sym, ap, ◌∙◌, rules, arith}
 use Rattle.std.specs.Io.BufRead.{drop_through}
 use Rattle.engine.specs.Engines.{engine_of}
-use Rattle.script.specs.Played.{line_text, played_on, said_in}
-use Rattle.script.proofs.PlayProofs.{ends, steps}
+use Rattle.script.specs.Played.{line_text, parsed_lines, played_on}
+use Rattle.script.proofs.PlayProofs.{ends, steps, uncounted, unread, unwritten}
 use Rattle.script.proofs.play.play_on.Goals as goal
 
 pub returns-in_default : goal.returns-in_default
 returns-in_default g c =
     ends
     (g.R.Read.remaining c.args.input.now)
-    (g.R.Read.remaining c.loop-number.input)
+    (g.R.Read.remaining c.loop-before.input)
     (g.W.Write.contents c.args.output.now)
-    (g.W.Write.contents c.loop-number.output)
-    (λ first. played_on g.S.Store.depth (engine_of g.S.Reads.meaning c.args.engine.now) c.args.first (said_in first))
-    (λ rest. played_on g.S.Store.depth (engine_of g.S.Reads.meaning c.loop-number.engine) c.loop-number.number (said_in rest))
+    (g.W.Write.contents c.loop-before.output)
+    (λ first. played_on g.S.Store.depth (engine_of g.S.Reads.meaning c.args.engine.now) (c.args.lines + 1) (parsed_lines first))
+    (λ rest. played_on g.S.Store.depth (engine_of g.S.Reads.meaning c.loop-before.engine) (c.loop-before.before + 1) (parsed_lines rest))
+    c.args.lines
+    c.loop-before.before
     c.in_ok-line.field-0
-    c.loop-number.invariant
-    c.in_ok-line.ensures.said
+    c.loop-before.invariant
+    c.in_ok-line.ensures.line
     c.in_default.is
     refl
 
-pub loop-number-preserved : goal.loop-number-preserved
-loop-number-preserved g c =
-    let engine = engine_of g.S.Reads.meaning c.loop-number.engine in
-    let number = c.loop-number.number in
-    steps
+pub returns-in_err-line : goal.returns-in_err-line
+returns-in_err-line g c =
+    let failed : c.from_residual.result ≡ Err c.in_err-line.field-0.0 = search rules in
+    unread
+    c.from_residual.result
+    c.in_err-line.field-0.0
     (g.R.Read.remaining c.args.input.now)
-    (g.R.Read.remaining c.loop-number.input)
+    (g.R.Read.remaining c.loop-before.input)
+    (g.W.Write.contents c.args.output.now)
+    (g.W.Write.contents c.loop-before.output)
+    (λ first. played_on g.S.Store.depth (engine_of g.S.Reads.meaning c.args.engine.now) (c.args.lines + 1) (parsed_lines first))
+    (λ rest. played_on g.S.Store.depth (engine_of g.S.Reads.meaning c.loop-before.engine) (c.loop-before.before + 1) (parsed_lines rest))
+    c.args.lines
+    c.loop-before.before
+    failed
+    c.in_err-line.ensures.cause
+    c.loop-before.invariant
+
+pub returns-in_err-play_line : goal.returns-in_err-play_line
+returns-in_err-play_line g c =
+    let failed : c.from_residual-in_err-play_line.result ≡ Err c.in_err-play_line.field-0.0 = search rules in
+    let engine = engine_of g.S.Reads.meaning c.loop-before.engine in
+    let before = c.loop-before.before in
+    unwritten
+    c.from_residual-in_err-play_line.result
+    c.in_err-play_line.field-0.0
+    (g.R.Read.remaining c.args.input.now)
+    (g.R.Read.remaining c.loop-before.input)
     (g.R.Read.remaining c.next_line.new.input)
     (g.W.Write.contents c.args.output.now)
-    (g.W.Write.contents c.loop-number.output)
+    (g.W.Write.contents c.loop-before.output)
     (g.W.Write.contents c.play_line.new.output)
-    (λ first. played_on g.S.Store.depth (engine_of g.S.Reads.meaning c.args.engine.now) c.args.first (said_in first))
-    (λ rest. played_on g.S.Store.depth engine number (said_in rest))
-    (λ rest. played_on g.S.Store.depth (engine_of g.S.Reads.meaning c.play_line.new.engine) (number + 1) (said_in rest))
+    (λ first. played_on g.S.Store.depth (engine_of g.S.Reads.meaning c.args.engine.now) (c.args.lines + 1) (parsed_lines first))
+    (λ rest. played_on g.S.Store.depth engine (before + 1) (parsed_lines rest))
+    (λ rest. played_on g.S.Store.depth (engine_of g.S.Reads.meaning c.play_line.new.engine) (before + 1 + 1) (parsed_lines rest))
+    c.args.lines
+    before
     c.in_ok-line.field-0
     c.in-Some.line
-    (line_text g.S.Store.depth engine number c.in-Some.line)
-    c.loop-number.invariant
-    c.in_ok-line.ensures.said
+    (line_text g.S.Store.depth engine (before + 1) c.in-Some.line)
+    failed
+    c.loop-before.invariant
+    c.in_ok-line.ensures.line
+    c.in_ok-line.ensures.rest
+    c.in-Some.is
+    c.in_err-play_line.ensures.writes
+    (λ rest lines.
+    ap (played_on g.S.Store.depth engine (before + 1)) lines
+    ∙ ap
+    (λ after. line_text g.S.Store.depth engine (before + 1) c.in-Some.line ++ played_on g.S.Store.depth after (before + 1 + 1) (parsed_lines (drop_through 10 rest)))
+    (sym c.play_line.ensures.after))
+
+pub loop-before-preserved : goal.loop-before-preserved
+loop-before-preserved g c =
+    let engine = engine_of g.S.Reads.meaning c.loop-before.engine in
+    let before = c.loop-before.before in
+    steps
+    (g.R.Read.remaining c.args.input.now)
+    (g.R.Read.remaining c.loop-before.input)
+    (g.R.Read.remaining c.next_line.new.input)
+    (g.W.Write.contents c.args.output.now)
+    (g.W.Write.contents c.loop-before.output)
+    (g.W.Write.contents c.play_line.new.output)
+    (λ first. played_on g.S.Store.depth (engine_of g.S.Reads.meaning c.args.engine.now) (c.args.lines + 1) (parsed_lines first))
+    (λ rest. played_on g.S.Store.depth engine (before + 1) (parsed_lines rest))
+    (λ rest. played_on g.S.Store.depth (engine_of g.S.Reads.meaning c.play_line.new.engine) (before + 1 + 1) (parsed_lines rest))
+    c.args.lines
+    before
+    c.in_ok-line.field-0
+    c.in-Some.line
+    (line_text g.S.Store.depth engine (before + 1) c.in-Some.line)
+    c.loop-before.invariant
+    c.in_ok-line.ensures.line
     c.in_ok-line.ensures.rest
     c.in-Some.is
     c.in_ok-play_line.ensures.writes
     (λ rest lines.
-    ap (played_on g.S.Store.depth engine number) lines
+    ap (played_on g.S.Store.depth engine (before + 1)) lines
     ∙ ap
-    (λ after. line_text g.S.Store.depth engine number c.in-Some.line ++ played_on g.S.Store.depth after (number + 1) (said_in (drop_through 10 rest)))
+    (λ after. line_text g.S.Store.depth engine (before + 1) c.in-Some.line ++ played_on g.S.Store.depth after (before + 1 + 1) (parsed_lines (drop_through 10 rest)))
     (sym c.play_line.ensures.after))
+
+pub returns : goal.returns
+returns g c =
+    let before = c.loop-before.before in
+    let all : 2 ^ 64 - 1 ≤ before = omega arith in
+    uncounted
+    (g.R.Read.remaining c.args.input.now)
+    (g.R.Read.remaining c.loop-before.input)
+    (g.W.Write.contents c.args.output.now)
+    (g.W.Write.contents c.loop-before.output)
+    (λ first. played_on g.S.Store.depth (engine_of g.S.Reads.meaning c.args.engine.now) (c.args.lines + 1) (parsed_lines first))
+    (λ rest. played_on g.S.Store.depth (engine_of g.S.Reads.meaning c.loop-before.engine) (before + 1) (parsed_lines rest))
+    c.args.lines
+    before
+    all
+    c.loop-before.invariant

@@ -1,16 +1,18 @@
 -- What is left of the input prints what is left of the whole.
-use Rattle.std.specs.Prelude.{IfSome}
+use Rattle.std.proofs.Common.{◌+◌}
 use Rattle.engine.specs.Engines.{engine_of}
-use Rattle.script.specs.Played.{played_on, said_in}
-use Rattle.script.proofs.PlayProofs.{Going}
+use Rattle.script.specs.Played.{parsed_lines, played_on}
+use Rattle.script.proofs.PlayProofs.{Playing}
 use Rattle.script.proofs.play.play_on.Given as goal
 
-abbrev pub invariant-loop-number : goal.invariant-loop-number
-invariant-loop-number g l =
-    IfSome (g.R.Read.remaining l.initial.input) (λ first.
-    Going
+abbrev pub invariant-loop-before : goal.invariant-loop-before
+invariant-loop-before g l =
+    Playing
+    (g.R.Read.remaining l.initial.input)
     (g.R.Read.remaining l.input)
     (g.W.Write.contents l.initial.output)
     (g.W.Write.contents l.output)
-    (played_on g.S.Store.depth (engine_of g.S.Reads.meaning l.initial.engine) l.first (said_in first))
-    (λ rest. played_on g.S.Store.depth (engine_of g.S.Reads.meaning l.engine) l.number (said_in rest)))
+    (λ first. played_on g.S.Store.depth (engine_of g.S.Reads.meaning l.initial.engine) (l.lines + 1) (parsed_lines first))
+    (λ rest. played_on g.S.Store.depth (engine_of g.S.Reads.meaning l.engine) (l.before + 1) (parsed_lines rest))
+    l.lines
+    l.before

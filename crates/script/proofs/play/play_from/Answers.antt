@@ -1,0 +1,44 @@
+-- The first call is made and written, and then the lines behind it are played on its engine.
+use Rattle.std.proofs.Common.{◌≡◌, ◌+◌, ◌∷◌, Err, refl, rules}
+use Rattle.engine.specs.Engines.{engine_of}
+use Rattle.engine.specs.Performing.{performed}
+use Rattle.table_store.specs.Stores.{meaning_of}
+use Rattle.table_store.specs.Tables.{table_depth}
+use Rattle.script.specs.Played.{played, played_on, parsed_lines, result_line, shown_result}
+use Rattle.script.specs.Shown.{request_text}
+use Rattle.script.specs.declared.line.Line.TheVariants as line
+use Rattle.script.proofs.PlayProofs.{line_then, line_unwritten}
+use Rattle.script.proofs.play.play_from.Goals as goal
+
+pub returns : goal.returns
+returns g c =
+    line_then
+    c.play_on.result
+    c.args.number
+    (g.R.Read.remaining c.args.input.now)
+    (g.W.Write.contents c.args.output.now)
+    (g.W.Write.contents c.perform.new.output)
+    (g.W.Write.contents c.play_on.new.output)
+    (result_line (request_text c.args.first) (shown_result (performed table_depth c.args.first.call (engine_of meaning_of c.new-engine.result)).0))
+    (λ rest. played_on table_depth (engine_of meaning_of c.perform.new.engine) (c.args.number + 1) (parsed_lines rest))
+    (λ rest. played c.args.number (line.Call c.args.first ∷ parsed_lines rest))
+    c.in_ok-perform.ensures.writes
+    c.play_on.ensures
+    (λ rest. rw (c.perform.ensures.after, c.new-engine.ensures.value, c.new.ensures.meaning) refl)
+
+pub returns-in_err-perform : goal.returns-in_err-perform
+returns-in_err-perform g c =
+    let failed : c.from_residual.result ≡ Err c.in_err-perform.field-0.0 = search rules in
+    line_unwritten
+    c.from_residual.result
+    c.in_err-perform.field-0.0
+    c.args.number
+    (g.R.Read.remaining c.args.input.now)
+    (g.W.Write.contents c.args.output.now)
+    (g.W.Write.contents c.perform.new.output)
+    (result_line (request_text c.args.first) (shown_result (performed table_depth c.args.first.call (engine_of meaning_of c.new-engine.result)).0))
+    (λ rest. played_on table_depth (performed table_depth c.args.first.call (engine_of meaning_of c.new-engine.result)).1 (c.args.number + 1) (parsed_lines rest))
+    (λ rest. played c.args.number (line.Call c.args.first ∷ parsed_lines rest))
+    failed
+    c.in_err-perform.ensures.writes
+    (λ rest. rw (c.new-engine.ensures.value, c.new.ensures.meaning) refl)

@@ -1,0 +1,35 @@
+-- What was written of a text, and what an error says of the rest of it.
+use Rattle.std.specs.Prelude.{◌≡◌, ℕ, ◌+◌, ◌-◌, ◌^◌, ◌<◌, ◌≤◌, List, ◌++◌, length, ⊤, Result, Ok, Err, Option, IfSome}
+use Rattle.std.specs.Io.KnownBytes.{Appends}
+use Rattle.script.specs.declared.error.PlayError.{PlayError}
+use Rattle.script.specs.declared.error.PlayError.TheVariants.{Input, Output, Memory, TooManyLines}
+
+-- known bytes grow by a front of the text, and P holds of the rest of it
+abbrev pub AppendsFront : (List ℕ → Type 0) → Option (List ℕ) → Option (List ℕ) → List ℕ → Type 0
+AppendsFront P before after text = (front : List ℕ) × (rest : List ℕ) × (text ≡ front ++ rest) × P rest × Appends before after front
+
+-- the writing of a text ends with this error only where something was left to write
+abbrev pub LeavesUnwritten : PlayError → List ℕ → Type 0
+LeavesUnwritten (Input e) rest = ⊥
+LeavesUnwritten (Output e) rest = 0 < length rest
+LeavesUnwritten Memory rest = 0 < length rest
+LeavesUnwritten TooManyLines rest = ⊥
+
+-- the input failed
+abbrev pub IsInput : PlayError → Type 0
+IsInput (Input e) = ⊤
+IsInput (Output e) = ⊥
+IsInput Memory = ⊥
+IsInput TooManyLines = ⊥
+
+-- The whole text was written, or the error says why only a front of it was.
+abbrev pub Writes : Result (Unit {0}) PlayError → Option (List ℕ) → Option (List ℕ) → List ℕ → Type 0
+Writes (Ok u) before after text = Appends before after text
+Writes (Err e) before after text = AppendsFront (LeavesUnwritten e) before after text
+
+-- the playing of so many lines ends with this error only where so much was left to print
+abbrev pub LeavesUnplayed : PlayError → ℕ → List ℕ → Type 0
+LeavesUnplayed (Input e) lines rest = ⊤
+LeavesUnplayed (Output e) lines rest = 0 < length rest
+LeavesUnplayed Memory lines rest = 0 < length rest
+LeavesUnplayed TooManyLines lines rest = 2 ^ 64 - 1 ≤ lines
