@@ -181,9 +181,9 @@ unwritten r e (Some first) now after old cur new whole left left_after lines rea
     let behind = left_after (drop_through 10 going.rest) in
     failed r e lines (Some first) old new whole is
     (further (LeavesUnplayed e total) old cur new going.front (text ++ behind) (whole first)
-     (going.splits ∙ ap (λ t. going.front ++ t) here.adds)
-     going.wrote
-     (longer (LeavesUnwritten e) (LeavesUnplayed e total) cur new text behind (unplayed e total behind) part))
+    (going.splits ∙ ap (λ t. going.front ++ t) here.adds)
+    going.wrote
+    (longer (LeavesUnwritten e) (LeavesUnplayed e total) cur new text behind (unplayed e total behind) part))
 
 -- the line is played by a call that plays all that is left
 pub closes : (r : Result (Unit {0}) PlayError) (start now after old cur new : Option (List ℕ)) (whole left left_after : List ℕ → List ℕ) (lines read : ℕ) (next : Option Line) (l : Line) → Playing start now old cur whole left lines read → IfSome now (λ rest. next ≡ next_parsed rest) → IfSome now (λ rest. after ≡ Some (drop_through 10 rest)) → next ≡ Some l → Prints r (read + 1) after cur new left_after → ((rest : List ℕ) → parsed_lines rest ≡ l ∷ parsed_lines (drop_through 10 rest) → left rest ≡ left_after (drop_through 10 rest)) → Prints r lines start old new whole

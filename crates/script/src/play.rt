@@ -59,10 +59,7 @@ pub fn play<R: BufRead, W: Write>(
 }
 
 // What the next line says; none at the end of the input.
-fn next_line<R: BufRead>(
-    input: &mut R,
-    buffer: &mut Vec<u8>,
-) -> Result<Option<Line>, PlayError>
+fn next_line<R: BufRead>(input: &mut R, buffer: &mut Vec<u8>) -> Result<Option<Line>, PlayError>
     ensures line { IfOk result (λ parsed. IfSome (R.Read.remaining input.old) (λ rest. parsed ≡ (if length rest == 0 then None else Some (line_of (take_through 10 rest))))) }
     ensures rest { OnOk result (IfSome (R.Read.remaining input.old) (λ rest. R.Read.remaining input.new ≡ Some (drop_through 10 rest))) }
     ensures cause { IfErr result IsInput }
@@ -155,6 +152,7 @@ fn play_from<R: BufRead, W: Write>(
 }
 
 // Plays the lines that are left; so many were read before them.
+#[tactic(auto, using(crate::proofs::PlayProofs::uncounted))]
 fn play_on<R: BufRead, W: Write, S: Store>(
     input: &mut R,
     output: &mut W,

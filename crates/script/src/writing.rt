@@ -38,6 +38,7 @@ pub(crate) fn write_bad<W: Write>(
 }
 
 // Writes all the bytes, in as many writes as it takes; where it fails, some of them are left.
+#[tactic(auto, using(crate::proofs::WritingProofs::some_written, crate::proofs::WritingProofs::rest_left))]
 fn write_whole<W: Write>(output: &mut W, bytes: &[u8]) -> io::Result<()>
     ensures { MatchResult result (λ _. Appends (W.contents output.old) (W.contents output.new) bytes.now) (λ _. AppendsFront (λ rest. 0 < length rest) (W.contents output.old) (W.contents output.new) bytes.now) }
 {

@@ -1,6 +1,7 @@
 // Tests of a script's lines, of what is shown, and of the playing, from bytes to bytes. What is expected was worked out
 // from the rules.
 use book::account::Account;
+use script::error::PlayError;
 use script::line::{Line, StoreKind};
 use script::parse::parse;
 use script::play::play;
@@ -9,12 +10,12 @@ use snapshot::account::{ChainReading, Reading, Write};
 use snapshot::fault::{Fault, Layer, Refusal};
 use snapshot::interval::Interval;
 use std::alloc::Global;
-use std::io;
+use std::io::{self, ErrorKind, Read};
 use std::process::Abort;
 use std::test::Fail;
 
 // What the script prints.
-fn played(heap: Global, script: &[u8]) -> io::Result<Vec<u8>> {
+fn played(heap: Global, script: &[u8]) -> Result<Vec<u8>, PlayError> {
     let mut output = Vec::new(heap);
     let mut input = script;
     play(heap, &mut input, &mut output)?;
@@ -280,17 +281,17 @@ fn table_of_unfit_memory_is_refused_and_the_script_goes_on_over_it(
     rt: HostRuntime,
 ) -> Result<(), Fail> {
     let behind = "begin 0 0\nread 0 0 9\nwrite 0 0 9 1\ncommit 0 0 5\nstore newest";
-    let told_behind = "begin 0 0 -> leg 0\nread 0 0 9 -> value 0\nwrite 0 0 9 1 -> done\n\
+    let answers_behind = "begin 0 0 -> leg 0\nread 0 0 9 -> value 0\nwrite 0 0 9 1 -> done\n\
         commit 0 0 5 -> refused 14 store 0 0 255\nbad 6\n";
     let heap = rt.alloc();
-    for (first, told) in [
+    for (first, answer) in [
         ("store table 0", "refused 17 store 255 255 255"),
         ("store table 63", "refused 17 store 255 255 255"),
         // as many records as there are keys: no room for a second version
         ("store table 64", "done"),
     ] {
         let script = format!(in heap; "{first}\n{behind}")?;
-        let expected = format!(in heap; "{first} -> {told}\n{told_behind}")?;
+        let expected = format!(in heap; "{first} -> {answer}\n{answers_behind}")?;
         prints(&rt, script.as_str().as_bytes(), expected.as_str())?;
     }
     Ok(())
@@ -413,18 +414,79 @@ fn account_that_the_book_refuses_is_shown_with_that_refusal(rt: HostRuntime) -> 
     Ok(())
 }
 
-// Errors of the output.
+// Errors of input and output.
 
-// A writer that has room for so many bytes, and refuses more.
+// A reader of which every read fails.
 #[derive(Drop)]
-struct Narrow {
-    taken: Vec<u8>,
-    room: usize,
+struct BrokenReader;
+
+fn broken() -> io::Error {
+    io::Error::other("broken")
 }
 
-impl io::Write for Narrow {
+impl io::Read for BrokenReader {
+    fn read(&mut self, _bytes: &mut [u8]) -> io::Result<usize> {
+        Err(broken())
+    }
+}
+
+impl io::BufRead for BrokenReader {
+    fn fill_buf(&mut self) -> io::Result<&[u8]> {
+        Err(broken())
+    }
+
+    fn consume(&mut self, _amount: usize) {}
+}
+
+#[test]
+fn input_that_fails_ends_the_playing_after_the_lines_before(rt: HostRuntime) -> Result<(), Fail> {
+    for (readable, expected) in [
+        ("", ""),
+        ("# a comment\n", ""),
+        ("count\n", "count -> waiting 0 lost 0\n"),
+        ("bad\ncount\ncount", "bad 1\ncount -> waiting 0 lost 0\n"),
+        ("store newest\nbad\n", "store newest -> done\nbad 2\n"),
+        ("store table 64\nbegin", "store table 64 -> done\n"),
+    ] {
+        let mut input = readable.as_bytes().chain(BrokenReader);
+        let mut output = Vec::new(rt.alloc());
+        let played = play(rt.alloc(), &mut input, &mut output);
+        assert!(rt;
+            matches!(&played, Err(PlayError::Input(error)) if error.kind() == ErrorKind::Other)
+        );
+        assert_eq!(rt; output.as_slice(), expected.as_bytes(), "{readable}");
+    }
+    let text = format!(in rt.alloc(); "{}", PlayError::Input(broken()))?;
+    assert_eq!(rt; text.as_str(), "the script cannot be read: broken");
+    Ok(())
+}
+
+const THREE_LINES: &[u8] = b"count\nbad\ncount\n";
+
+const THREE_LINES_PRINTED: &[u8] = b"count -> waiting 0 lost 0\nbad 2\ncount -> waiting 0 lost 0\n";
+
+// A writer that takes this many bytes at most of each write, has room for so many in all, and then fails, by an error or
+// by taking none. Where it is interrupted, every other write is.
+#[derive(Drop)]
+struct NarrowWriter {
+    taken: Vec<u8>,
+    room: usize,
+    most: usize,
+    fails: bool,
+    interrupts: bool,
+    is_interrupted: bool,
+}
+
+impl io::Write for NarrowWriter {
     fn write(&mut self, bytes: &[u8]) -> io::Result<usize> {
-        let count = bytes.len().min(self.room);
+        self.is_interrupted = self.interrupts && !self.is_interrupted;
+        if self.is_interrupted {
+            return Err(io::Error::from(ErrorKind::Interrupted));
+        }
+        if self.room == 0 && self.fails {
+            return Err(broken());
+        }
+        let count = bytes.len().min(self.room).min(self.most);
         self.taken.extend_from_slice(&bytes[..count])?;
         self.room -= count;
         Ok(count)
@@ -435,19 +497,53 @@ impl io::Write for Narrow {
     }
 }
 
+fn narrow(heap: Global, room: usize, most: usize) -> NarrowWriter {
+    NarrowWriter {
+        taken: Vec::new(heap),
+        room,
+        most,
+        fails: false,
+        interrupts: false,
+        is_interrupted: false,
+    }
+}
+
 #[test]
-fn output_that_takes_no_more_ends_the_playing_with_an_error(rt: HostRuntime) {
-    let script = b"count\nbad\ncount\n";
-    for room in [0, 1, 25, 26, 30, 31, 56] {
-        let mut output = Narrow {
-            taken: Vec::new(rt.alloc()),
-            room,
-        };
-        let mut input = script.as_slice();
-        assert!(rt;
-            play(rt.alloc(), &mut input, &mut output).is_err(),
-            "room {room}"
-        );
-        assert_eq!(rt; output.taken.len(), room);
+fn output_that_takes_no_more_ends_the_playing_with_an_error(rt: HostRuntime) -> Result<(), Fail> {
+    for room in 0..THREE_LINES_PRINTED.len() {
+        for fails in [false, true] {
+            let mut output = NarrowWriter {
+                fails,
+                ..narrow(rt.alloc(), room, 7)
+            };
+            let mut input = THREE_LINES;
+            let kind = if fails {
+                ErrorKind::Other
+            } else {
+                ErrorKind::WriteZero
+            };
+            let played = play(rt.alloc(), &mut input, &mut output);
+            assert!(rt; matches!(&played, Err(PlayError::Output(error)) if error.kind() == kind));
+            assert!(rt; THREE_LINES_PRINTED.starts_with(output.taken.as_slice()));
+            assert_eq!(rt; output.taken.len(), room);
+        }
+    }
+    let text = format!(in rt.alloc(); "{}", PlayError::Output(broken()))?;
+    assert_eq!(rt; text.as_str(), "the output cannot be written: broken");
+    Ok(())
+}
+
+#[test]
+fn output_that_takes_a_few_bytes_at_a_time_gets_them_all(rt: HostRuntime) {
+    for most in [1, 2, 30] {
+        for interrupts in [false, true] {
+            let mut output = NarrowWriter {
+                interrupts,
+                ..narrow(rt.alloc(), THREE_LINES_PRINTED.len(), most)
+            };
+            let mut input = THREE_LINES;
+            assert!(rt; play(rt.alloc(), &mut input, &mut output).is_ok());
+            assert_eq!(rt; output.taken.as_slice(), THREE_LINES_PRINTED);
+        }
     }
 }

@@ -1,9 +1,9 @@
 -- Each line prints what the rules draw for it, the last leaves nothing, and an error leaves what it says.
-use Rattle.std.proofs.Common.{◌≡◌, ◌+◌, ◌-◌, ◌^◌, ◌≤◌, ◌++◌, Err, refl, sym, ap, ◌∙◌, rules, arith}
+use Rattle.std.proofs.Common.{◌≡◌, ◌+◌, ◌++◌, Err, refl, sym, ap, ◌∙◌, rules}
 use Rattle.std.specs.Io.BufRead.{drop_through}
 use Rattle.engine.specs.Engines.{engine_of}
 use Rattle.script.specs.Played.{line_text, parsed_lines, played_on}
-use Rattle.script.proofs.PlayProofs.{ends, steps, uncounted, unread, unwritten}
+use Rattle.script.proofs.PlayProofs.{ends, steps, unread, unwritten}
 use Rattle.script.proofs.play.play_on.Goals as goal
 
 pub returns-in_default : goal.returns-in_default
@@ -104,19 +104,3 @@ loop-before-preserved g c =
     ∙ ap
     (λ after. line_text g.S.Store.depth engine (before + 1) c.in-Some.line ++ played_on g.S.Store.depth after (before + 1 + 1) (parsed_lines (drop_through 10 rest)))
     (sym c.play_line.ensures.after))
-
-pub returns : goal.returns
-returns g c =
-    let before = c.loop-before.before in
-    let all : 2 ^ 64 - 1 ≤ before = omega arith in
-    uncounted
-    (g.R.Read.remaining c.args.input.now)
-    (g.R.Read.remaining c.loop-before.input)
-    (g.W.Write.contents c.args.output.now)
-    (g.W.Write.contents c.loop-before.output)
-    (λ first. played_on g.S.Store.depth (engine_of g.S.Reads.meaning c.args.engine.now) (c.args.lines + 1) (parsed_lines first))
-    (λ rest. played_on g.S.Store.depth (engine_of g.S.Reads.meaning c.loop-before.engine) (before + 1) (parsed_lines rest))
-    c.args.lines
-    before
-    all
-    c.loop-before.invariant
