@@ -1,10 +1,11 @@
-// Why a script is not played to its end.
+// Why a script was not played to its end.
 
 use std::io;
 use thiserror::Error;
 
-// `Input` is also answered where there is no memory for a line of the script: the error has that kind then. `Memory` is
-// want of memory for what a line prints. A script may have 2^64 - 1 lines less one.
+// The cause of an error in playing. `Input`: the script could not be read, or there was no memory for a line of it; the
+// reader's error does not always say which. `Output`: the output did not take what was to be printed. `Memory`: there was
+// no memory for what a line prints. `TooManyLines`: the script has 2^64 - 1 lines or more.
 #[derive(Debug, Drop, Error)]
 pub enum PlayError {
     #[error("the script cannot be read: {0}")]
