@@ -1,15 +1,16 @@
 // Plays the scripts of data/, each behind a line with its name; what they must print was computed by other
-// implementations of the rules. The tests of lines, of what is shown and of the playing stand in `tests`.
+// implementations of the rules, from which the program's own output is never taken. The tests of lines, of what is shown
+// and of the playing stand in `tests`.
 #![tactic(auto)]
 
+mod scripts;
 #[cfg(test)]
 mod tests;
 
+use crate::scripts::SCRIPTS;
 use script::play::play;
 use std::fs;
 use std::io::{self, BufWriter, Write};
-
-const SCRIPTS: usize = 30;
 
 fn play_file<W: Write>(rt: &HostRuntime, name: &str, output: &mut W) -> anyhow::Result<()> {
     writeln!(output, "{name}")?;
@@ -20,9 +21,8 @@ fn play_file<W: Write>(rt: &HostRuntime, name: &str, output: &mut W) -> anyhow::
 
 fn main(rt: HostRuntime) -> anyhow::Result<()> {
     let mut output = BufWriter::new(rt.alloc(), io::writer(&rt))?;
-    for number in 1..=SCRIPTS {
-        let name = format!(in rt.alloc(); "room-{number:02}.script")?;
-        play_file(&rt, name.as_str(), &mut output)?;
+    for name in SCRIPTS {
+        play_file(&rt, name, &mut output)?;
     }
     output.flush()?;
     Ok(())
