@@ -1,7 +1,7 @@
 // A worker's cache: its eight entries in the order of their use, what a store's answer and a notice make of an entry, and
 // which entry answers.
-use engine_parts::cache::{CACHES, Cache};
 use engine_model::records::{CacheEntry, Notice};
+use engine_parts::cache::{CACHES, Cache};
 use snapshot::account::Reading;
 use snapshot::interval::Interval;
 use snapshot::limits::{CACHE_KEYS, OPEN_END};

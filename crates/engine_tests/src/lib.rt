@@ -1,19 +1,27 @@
-// Tests of the engine's calls and of its parts: caches, notices, write sets and lists of bounded length. How a test writes a
-// call and an answer is public, for other tests of the engine.
+// Tests of the engine in Rust, of what a script does not show: which queries a call sends to the store, the store's own
+// fault inside the engine's, the caller's lists behind what a commit fills, memory, lists of calls, accounts in a book, and
+// the engine's parts. What is printed of calls and answers is tested by the scripts of `script_tests`.
 #![tactic(auto)]
 
 #[cfg(test)]
+mod books;
+#[cfg(test)]
+mod builders;
+#[cfg(test)]
 mod caches;
 #[cfg(test)]
-mod calls;
+mod caller_lists;
 #[cfg(test)]
-mod chains;
+mod faults;
 #[cfg(test)]
 mod lists;
 #[cfg(test)]
+mod memory;
+#[cfg(test)]
 mod notices;
 #[cfg(test)]
-mod questions;
-pub mod seen;
+mod runs;
 #[cfg(test)]
-mod steps;
+mod store_queries;
+#[cfg(test)]
+mod watched_store;

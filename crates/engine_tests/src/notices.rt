@@ -1,7 +1,7 @@
 // The list of waiting notices: which notices writes raise and in which order, how many wait and are lost, and discards.
+use engine_model::records::{CacheEntry, Notice};
 use engine_parts::cache::{CACHES, Cache};
 use engine_parts::notices::Notices;
-use engine_model::records::{CacheEntry, Notice};
 use snapshot::account::{Reading, Write};
 use snapshot::limits::KEYS;
 use std::process::Abort;

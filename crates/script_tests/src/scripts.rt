@@ -1,7 +1,7 @@
 // The scripts of data/ in the order in which they are played: first those whose answers two other implementations of the
 // rules computed, then those that each show one rule or a few.
 
-pub(crate) const SCRIPTS: [&str; 93] = [
+pub(crate) const SCRIPTS: [&str; 94] = [
     "room-01.script",
     "room-02.script",
     "room-03.script",
@@ -95,4 +95,5 @@ pub(crate) const SCRIPTS: [&str; 93] = [
     "older-answer-after-a-notice.script",
     "late-notice-split-chain-and-prune.script",
     "prune-before-the-joined-read.script",
+    "account-of-a-split-chain.script",
 ];

@@ -1,10 +1,9 @@
 // Accounts of commits written to a book one after another, and read back.
-use crate::steps::{answers, made, put};
+use crate::builders::Seen::{Done, Leg, Legs, Value};
+use crate::builders::{answers, begin, fork, join, made, put, read, write};
 use book::account::Account;
 use book::reader::{AccountAt, read_account};
 use engine::engine::Engine;
-use engine_tests::seen::Seen::{Done, Leg, Legs, Value};
-use engine_tests::seen::{begin, fork, join, read, write};
 use newest_store::newest::Newest;
 use snapshot::account::{AccountHead, ChainReading, NO_READING, NO_WRITE, Write};
 use snapshot::fault::BookFault;
@@ -13,23 +12,6 @@ use snapshot::interval::Interval;
 use snapshot::limits::{CHAIN_READINGS, OPEN_END, WRITE_KEYS};
 use std::process::Abort;
 use store::traits::Store;
-
-// The account of the chain that `begin_dock` begins, when it commits at time 100 on a new store.
-const DOCK_BYTES: [u8; 78] = [
-    // the mark, two readings, one write
-    0xc3, 0x3c, 2, 1, //
-    // low 0, high 0, timestamp 100
-    0, 0, 0, 0, 0, 0, 0, 0, //
-    0, 0, 0, 0, 0, 0, 0, 0, //
-    0, 0, 0, 0, 0, 0, 0, 100, //
-    // on worker 3 key 7, on worker 1 key 9: value 0, known from 0 to 0
-    3, 7, 0, 0, 0, 0, 0, 0, 0, 0, 0, 0, 0, 0, 0, 0, 0, 0, 0, 0, 0, 0, //
-    1, 9, 0, 0, 0, 0, 0, 0, 0, 0, 0, 0, 0, 0, 0, 0, 0, 0, 0, 0, 0, 0, //
-    // key 7 is to have 5
-    7, 0, 0, 0, 5, //
-    // the exclusive-or of all that
-    0x96,
-];
 
 // At place 0 a chain reads key 7 at worker 3, then key 9 at worker 1 and writes key 7 at worker 2, and is joined as leg 3.
 fn begin_dock<S: Store>(rt: &impl Abort, engine: &mut Engine<S>) {
@@ -87,28 +69,14 @@ fn has_account(
         readings: readings.len(),
         writes: writes.len(),
     };
-    let mut told_readings = [NO_READING; CHAIN_READINGS];
-    let mut told_writes = [NO_WRITE; WRITE_KEYS];
+    let mut readings_found = [NO_READING; CHAIN_READINGS];
+    let mut writes_found = [NO_WRITE; WRITE_KEYS];
     assert_eq!(rt;
-        read_account(book, start, &mut told_readings, &mut told_writes),
+        read_account(book, start, &mut readings_found, &mut writes_found),
         Ok(AccountAt { head, end })
     );
-    assert_eq!(rt; told_readings.get(..readings.len()), Some(readings));
-    assert_eq!(rt; told_writes.get(..writes.len()), Some(writes));
-}
-
-#[test]
-fn account_of_a_split_chain_has_these_bytes(rt: HostRuntime) {
-    let mut engine = Engine::new(Newest::new());
-    begin_dock(&rt, &mut engine);
-    let mut book = [255; 80];
-    assert_eq!(rt;
-        commits_into(&mut engine, (0, 3, 100), &mut book, 0),
-        Some(78)
-    );
-    let (account, rest) = book.split_at(78);
-    assert_eq!(rt; account, &DOCK_BYTES[..]);
-    assert_eq!(rt; rest, &[255, 255][..]);
+    assert_eq!(rt; readings_found.get(..readings.len()), Some(readings));
+    assert_eq!(rt; writes_found.get(..writes.len()), Some(writes));
 }
 
 // A book of three accounts: of an empty chain, of the one that `begin_dock` begins, and of one that only reads.
@@ -128,9 +96,10 @@ fn three_accounts(rt: &impl Abort, book: &mut [u8]) {
 
 #[test]
 fn accounts_written_one_after_another_are_read_back(rt: HostRuntime) {
-    let mut memory = [0; 158];
+    let mut memory = [255; 160];
     let book = &mut memory[..];
     three_accounts(&rt, book);
+    assert_eq!(rt; book.get(158..), Some(&[255, 255][..]));
     has_account(&rt, book, (0, 29), (0, OPEN_END), 0, &[], &[]);
     let dock = [made(3, 7, 0, 0, 0), made(1, 9, 0, 0, 0)];
     has_account(&rt, book, (29, 107), (0, 0), 100, &dock, &[put(7, 5)]);

@@ -1,12 +1,12 @@
 // Lists of calls run on new engines over both stores: their answers in order, behind what the list of answers already held,
 // and the engine that comes back.
-use crate::steps::{answers, gone, store_refuses, wrote};
+use crate::builders::Seen::{self, Done, Leg, Notices, Refused, Value};
+use crate::builders::{
+    abandon, answers, begin, commit, committed, gone, hand, prune, read, refused_place, seen_of,
+    store_refuses, write, wrote,
+};
 use engine::answer::Answer;
 use engine::run::run;
-use engine_tests::seen::Seen::{self, Done, Leg, Notices, Refused, Value};
-use engine_tests::seen::{
-    abandon, begin, commit, committed, hand, prune, read, refused_place, seen_of, write,
-};
 use engine_model::calls::Call::{self, Count};
 use newest_store::newest::Newest;
 use snapshot::fault::EngineFault;
@@ -85,25 +85,6 @@ fn lists(rt: &impl Abort, list: &[Result<Answer, EngineFault>], expected: &[Seen
     for (number, (answer, seen)) in list.iter().zip(expected).enumerate() {
         assert_eq!(rt; seen_of(answer), *seen, "answer {number}");
     }
-}
-
-#[test]
-fn run_over_a_table_answers_in_order(rt: HostRuntime) -> Result<(), Fail> {
-    let mut memory = [NO_RECORD; 65];
-    let mut list = Vec::new(rt.alloc());
-    let (_, done) = run(Table::new(&mut memory), &calls(), &mut list);
-    done?;
-    lists(&rt, &list, &over_table());
-    Ok(())
-}
-
-#[test]
-fn run_over_the_newest_store_answers_in_order(rt: HostRuntime) -> Result<(), Fail> {
-    let mut list = Vec::new(rt.alloc());
-    let (_, done) = run(Newest::new(), &calls(), &mut list);
-    done?;
-    lists(&rt, &list, &over_newest());
-    Ok(())
 }
 
 #[test]

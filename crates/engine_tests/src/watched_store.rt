@@ -1,0 +1,128 @@
+// A newest store that notes which calls are made of it.
+ghost use Rattle.std.specs.Prelude.{◌≡◌, OnErr};
+ghost use Rattle.std.proofs.Common.{lit≤};
+ghost use Rattle.store.specs.Meaning.{commit_answer, after_commit, after_prune};
+ghost use Rattle.newest_store.specs.Newest.{newest_meaning};
+
+use newest_store::newest::Newest;
+use snapshot::account::{NO_WRITE, Reading, Write};
+use snapshot::fault::Fault;
+use snapshot::limits::WRITE_KEYS;
+use std::cell::Cell;
+use store::traits::{Reads, Store};
+
+// A call of the store; a commit with its number of writes and the writes, behind which no writes follow.
+#[derive(Clone, Copy, PartialEq, Eq, Debug)]
+pub(crate) enum Query {
+    Last,
+    Version {
+        key: u8,
+        time: u64,
+    },
+    Commit {
+        clock: u64,
+        count: usize,
+        writes: [Write; WRITE_KEYS],
+    },
+    Prune {
+        horizon: u64,
+    },
+}
+
+// How many calls there were, and the latest.
+pub(crate) type Queries = (u8, Option<Query>);
+
+// There was no call.
+pub(crate) const NONE: Queries = (0, None);
+
+// There was one call: for the version of a key at a time.
+pub(crate) fn version(key: u8, time: u64) -> Queries {
+    (1, Some(Query::Version { key, time }))
+}
+
+// There was one call: a commit.
+pub(crate) fn one_commit(clock: u64, writes: &[Write]) -> Queries {
+    (1, Some(commit_query(clock, writes)))
+}
+
+// There was one call: a prune.
+pub(crate) fn one_prune(horizon: u64) -> Queries {
+    (1, Some(Query::Prune { horizon }))
+}
+
+fn commit_query(clock: u64, writes: &[Write]) -> Query {
+    Query::Commit {
+        clock,
+        count: writes.len(),
+        writes: start_of(writes),
+    }
+}
+
+// The start of a list of writes.
+fn start_of(writes: &[Write]) -> [Write; WRITE_KEYS] {
+    let mut start = [NO_WRITE; WRITE_KEYS];
+    for (entry, write) in start.iter_mut().zip(writes) {
+        *entry = *write;
+    }
+    start
+}
+
+// The store, and its calls since they were last cleared.
+#[derive(Drop)]
+pub(crate) struct Watched<'a> {
+    pub(crate) store: Newest,
+    pub(crate) queries: &'a Cell<Queries>,
+}
+
+impl Watched<'_> {
+    fn note(&self, query: Query) {
+        let (count, _) = self.queries.get();
+        self.queries.set((count.saturating_add(1), Some(query)));
+    }
+}
+
+impl Reads for Watched<'_> {
+    ghost meaning = { λ w. newest_meaning w.store };
+
+    ghost least_capacity = { λ w. lit≤ tt };
+
+    fn last(&self) -> u64 {
+        self.note(Query::Last);
+        self.store.last()
+    }
+
+    fn version(&self, key: u8, time: u64) -> Result<Reading, Fault> {
+        self.note(Query::Version { key, time });
+        self.store.version(key, time)
+    }
+}
+
+impl Store for Watched<'_> {
+    ghost depth = { 1 };
+
+    ghost not_none = { lit≤ tt };
+
+    const DEPTH: usize = 1;
+
+    fn most_versions() -> usize
+        ensures { result ≡ 1 }
+    {
+        1
+    }
+
+    fn commit(&mut self, clock: u64, writes: &[Write]) -> Result<u64, Fault>
+        ensures answer { result ≡ commit_answer 1 clock writes.now (newest_meaning self.old.store) }
+        ensures after { newest_meaning self.new.store ≡ after_commit 1 clock writes.now (newest_meaning self.old.store) }
+        ensures unchanged { OnErr result (self.new ≡ self.old) }
+    {
+        self.note(commit_query(clock, writes));
+        self.store.commit(clock, writes)
+    }
+
+    fn prune(&mut self, horizon: u64)
+        ensures after { newest_meaning self.new.store ≡ after_prune horizon (newest_meaning self.old.store) }
+    {
+        self.note(Query::Prune { horizon });
+        self.store.prune(horizon);
+    }
+}
