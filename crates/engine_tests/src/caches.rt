@@ -185,7 +185,7 @@ fn notice_of_a_later_version_replaces_the_reading_and_an_earlier_one_has_no_effe
     rt: HostRuntime,
 ) {
     let kept = reading(103, 10, 20);
-    // what is told, and what the entry has afterwards
+    // the reading of a notice, and what the entry has afterwards
     let cases = [
         (reading(1, 11, 11), reading(1, 11, 11)),
         (reading(1, 30, 30), reading(1, 30, 30)),
@@ -194,10 +194,14 @@ fn notice_of_a_later_version_replaces_the_reading_and_an_earlier_one_has_no_effe
         (reading(1, 9, 40), kept),
         (reading(1, 0, 20), kept),
     ];
-    for (told, expected) in cases {
+    for (notice_reading, expected) in cases {
         let mut cache = full();
-        cache.take_notice(notice(3, told));
-        assert_eq!(rt; held(&cache, 3), Some(expected), "told {told:?}");
+        cache.take_notice(notice(3, notice_reading));
+        assert_eq!(rt;
+            held(&cache, 3),
+            Some(expected),
+            "notice {notice_reading:?}"
+        );
         assert_eq!(rt; held(&cache, 2), Some(reading(102, 10, 20)));
         assert_eq!(rt; held(&cache, 4), Some(reading(104, 10, 20)));
         is_in_order(&rt, cache, [0, 1, 2, 3, 4, 5, 6, 7]);

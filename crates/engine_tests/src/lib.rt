@@ -18,8 +18,6 @@ mod lists;
 #[cfg(test)]
 mod memory;
 #[cfg(test)]
-mod notices;
-#[cfg(test)]
 mod runs;
 #[cfg(test)]
 mod store_queries;

@@ -1,7 +1,7 @@
 // The scripts of data/ in the order in which they are played: first those whose answers two other implementations of the
 // rules computed, then those that each show one rule or a few.
 
-pub(crate) const SCRIPTS: [&str; 94] = [
+pub(crate) const SCRIPTS: [&str; 101] = [
     "room-01.script",
     "room-02.script",
     "room-03.script",
@@ -96,4 +96,11 @@ pub(crate) const SCRIPTS: [&str; 94] = [
     "late-notice-split-chain-and-prune.script",
     "prune-before-the-joined-read.script",
     "account-of-a-split-chain.script",
+    "waiting-notices-by-position.script",
+    "no-notice-of-a-key-that-nobody-holds.script",
+    "notice-after-32.script",
+    "last-notices-are-lost.script",
+    "discard-moves-later-notices-up.script",
+    "write-set-rises.script",
+    "write-sets-of-joined-legs.script",
 ];
