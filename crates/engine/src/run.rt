@@ -14,8 +14,8 @@ use store::traits::Store;
 
 // Performs the calls in order on a new engine over the store, adds their answers to the list, and hands back the engine.
 // Succeeds wherever the list has room for the answers; else it may fail, for want of memory, and then no call has been
-// performed. Where the store is new, the calls with their answers are a trace that keeps the law of traces,
-// and that of the first n calls keeps it for every n.
+// performed. Where the store is new, the calls with their answers are a trace that keeps the law of traces, and so is that of
+// the first n calls, for every n.
 pub fn run<S: Store>(
     store: S,
     calls: &[Call],
