@@ -12,7 +12,7 @@ none_after : (o : Option ℕ) → before_others o None ≡ None
 none_after None = refl
 none_after (Some n) = refl
 
--- one word that tells no number is enough
+-- one word that is no number is enough
 pub stop : (words : List (Bor (List ℕ))) (i : ℕ) (d : Bor (List ℕ)) → i < length words → parsed_number (get_or words i d).now ≡ None → numbers_of (map (λ word. word.now) words) ≡ None
 stop [] i d lt h = absurd (omega arith)
 stop (w ∷ ws) zero d lt h = rw h refl

@@ -13,7 +13,7 @@ use Rattle.script.specs.Numbers.{parsed_number}
 use Rattle.script.specs.Requests.{within, begin_of, hand_of, fork_of, join_of, write_of, read_of, commit_of, abandon_of, deliver_of, discard_of, count_of, prune_of}
 use Rattle.script.specs.Words.{first_words}
 
--- the numbers of all these words; none where one tells no number
+-- the numbers of all these words; none where one is no number
 abbrev pub with_first : ℕ → Option (List ℕ) → Option (List ℕ)
 with_first n None = None
 with_first n (Some ns) = Some (n ∷ ns)

@@ -1,4 +1,4 @@
--- The number that a word tells.
+-- The number that a word is.
 use Rattle.std.specs.Prelude.{ℕ, ◌^◌, if◌then◌else◌, ◌&&◌, List, length, Option, Some, None, nat_lt}
 use Rattle.std.specs.Char.{is_ascii_digit}
 use Rattle.std.specs.List.{list_all}

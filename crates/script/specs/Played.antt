@@ -36,7 +36,7 @@ result_line call outcome = call ++ (codes " -> " ++ (outcome_text outcome ++ lin
 abbrev pub bad_line : ℕ → List ℕ
 bad_line number = codes "bad " ++ (decimal number ++ line_break)
 
--- of an engine's fault the call's own is told
+-- of an engine's fault the call's own is shown
 abbrev pub shown_result : Result Answer EngineFault → Result Answer Fault
 shown_result (Ok a) = Ok a
 shown_result (Err f) = Err f.fault

@@ -49,7 +49,7 @@ abbrev pub ShowsTableTrace : ℕ → ℕ → List Line → List ℕ → Type 0
 ShowsTableTrace records number lines text =
     (room : key_count ≤ capacity_of records) × ShowsTrace (new_table (capacity_of records) room) number lines text
 
--- The text of a script's lines: up to the first call or the store's line it tells of bad lines, and from there on it shows a trace.
+-- The text of a script's lines: up to the first call or the store's line it has the bad lines, and from there on it shows a trace.
 abbrev pub ShowsTraces : ℕ → List Line → List ℕ → Type 0
 ShowsTraces number [] text = text ≡ []
 ShowsTraces number (line.Blank ∷ lines) text = ShowsTraces (number + 1) lines text

@@ -23,6 +23,6 @@ without_end line = if last_is 10 line then without_return (all_but_last line) el
 abbrev pub words_of : List ℕ → List (List ℕ)
 words_of line = filter (λ word. nat_lt 0 (length word)) (slice_split is_space line)
 
--- the first seven words: no line of a script has more than six, so that the seventh tells that there are too many
+-- the first seven words: no line of a script has more than six, so that a line with seven is seen to have too many
 abbrev pub first_words : List ℕ → List (List ℕ)
 first_words line = take 7 (words_of (without_end line))

@@ -4,7 +4,7 @@ ghost use Rattle.std.specs.Char.{is_ascii_digit};
 ghost use Rattle.std.specs.List.{list_all};
 ghost use Rattle.script.specs.Numbers.{parsed_number};
 
-// The number that a word tells: it has only decimal digits, and is at most 2^64 - 1.
+// The number that a word is: it has only decimal digits, and is at most 2^64 - 1.
 pub(crate) fn number_in(word: &[u8]) -> Option<u64>
     ensures { result ≡ parsed_number word.now }
 {

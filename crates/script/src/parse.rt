@@ -49,7 +49,7 @@ fn store(words: &[&[u8]]) -> Option<StoreKind>
     }
 }
 
-// The numbers that the words tell; none if one of them tells no number.
+// The numbers that the words are; none if one of them is no number.
 fn numbers_in(words: &[&[u8]]) -> Option<ArrayVec<u64, MOST_WORDS>>
     requires { length words.now ≤ 7 }
     ensures { items_of result ≡ numbers_of (map (λ word. word.now) words.now) }

@@ -107,8 +107,8 @@ fn play_over<R: BufRead, W: Write>(
     }
 }
 
-// Plays a script from the line that asks for a table of so many records, which lie in this memory. Where the table
-// refuses the memory, that is told, and the script goes on over the store that it gives.
+// Plays a script from the line that names a table of so many records, which lie in this memory. Where the table refuses
+// the memory, that is written, and the script goes on over the store that it gives.
 fn play_over_table<R: BufRead, W: Write>(
     input: &mut R,
     output: &mut W,
@@ -189,7 +189,7 @@ fn play_line<W: Write, S: Store>(
     }
 }
 
-// Makes the call, and tells what it came to.
+// Makes the call, and writes it with what it came to.
 fn perform<W: Write, S: Store>(
     output: &mut W,
     buffer: &mut Vec<u8>,
@@ -203,7 +203,7 @@ fn perform<W: Write, S: Store>(
     write_outcome(output, buffer, request, outcome)
 }
 
-// Of an engine's fault the call's own is told.
+// Of an engine's fault the call's own is shown.
 fn outcome(answer: Result<Answer, EngineFault>) -> Outcome
     ensures { result.0 ≡ shown_result answer }
 {

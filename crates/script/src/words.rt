@@ -4,7 +4,7 @@ ghost use Rattle.script.specs.Words.{is_space, words_of, without_end};
 
 use arrayvec::ArrayVec;
 
-// No line of a script has more words than six. Where a line has more, the seventh is kept to tell it.
+// No line of a script has more words than six. Where a line has more, the seventh is kept, so that the line is seen to have too many.
 pub(crate) const MOST_WORDS: usize = 7;
 
 // The first words of a line, which are separated by spaces and tabs.

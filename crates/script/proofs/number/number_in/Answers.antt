@@ -1,4 +1,4 @@
--- A word of digits alone is text, and `parse` reads the number that it tells.
+-- A word of digits alone is text, and `parse` reads its number.
 use Rattle.std.proofs.Common.{rules, ◌≡◌, ◌∙◌, true, sym}
 use Rattle.std.specs.Char.{is_ascii_digit}
 use Rattle.std.specs.List.{list_all}

@@ -1,4 +1,4 @@
--- At the end every part of the line has been told.
+-- At the end every part of the line has been looked at.
 use Rattle.std.proofs.Common.{rules, ap, ◌∙◌, take, filter, length, nat_lt, List, ℕ}
 use Rattle.std.proofs.lemmas.Iterator.Consumers.{YieldsList-end}
 use Rattle.std.proofs.lemmas.Iterator.Splits.{YieldsList-from_slice_split}

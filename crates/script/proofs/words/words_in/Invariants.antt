@@ -1,4 +1,4 @@
--- The words so far are the first of those that are told so far.
+-- The words so far are the first of those in the parts so far.
 use Rattle.std.proofs.Common.{◌≡◌, map, take, filter, length, nat_lt}
 use Rattle.script.proofs.words.words_in.Given as goal
 
