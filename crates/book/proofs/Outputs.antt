@@ -1,13 +1,16 @@
 -- What is read of an input whose bytes are known, and what an output gains.
-use Rattle.std.proofs.Common.{◌≡◌, ℕ, ◌-◌, List, [], ◌++◌, length, take, drop, Option, Some, None, ap, ◌∙◌, length-drop, subst, arith}
-use Rattle.std.proofs.KnownBytes.{Appends-nil}
-use Rattle.std.proofs.lemmas.List.{take_all}
-use Rattle.std.specs.Io.KnownBytes.{Appends}
+use Rattle.std.proofs.Common.{◌≡◌, ℕ, ◌+◌, ◌-◌, ◌<◌, ◌≤◌, inl, inr, List, [], ◌++◌, length, take, drop, Option, Some, None, refl, sym, ap, ◌∙◌, length-drop, subst, arith}
+use Rattle.std.proofs.KnownBytes.{Appends-nil, Appends-trans, Keeps-refl}
+use Rattle.std.proofs.Math.Seq.{take-append-add}
+use Rattle.std.proofs.lemmas.Grind.{common_steps}
+use Rattle.std.proofs.lemmas.List.{length-take, take-append-drop}
+use Rattle.std.specs.Io.KnownBytes.{Appends, Keeps}
 use Rattle.std.specs.Option.{option_map}
 use Rattle.std.specs.Prelude.{IfSome}
 use Rattle.snapshot.specs.declared.account.AccountHead.{AccountHead}
 use Rattle.snapshot.specs.declared.fault.BookFault.{BookFault}
 use Rattle.book.specs.Books.{GainsFront, GainsListing, IsFrontOf, ListedBehind, ListsBook, listing_text, most_bytes}
+use Rattle.book.specs.Outputs.{AppendsFront}
 
 front_of : (given : Option (List ℕ)) (limit : ℕ) (before items : List ℕ) → IfSome (option_map (take limit) given) (λ xs. items ≡ before ++ xs) → limit ≡ most_bytes → before ≡ [] → IfSome given (λ rest. items ≡ take most_bytes rest)
 front_of None limit before items read is none = tt
@@ -28,16 +31,43 @@ lists_known (Some rest) book text heads ending is listed shown =
 -- nothing was written
 pub gains_none : (known contents : Option (List ℕ)) → IfSome known (λ rest. GainsFront (take most_bytes rest) contents contents)
 gains_none None contents = tt
-gains_none (Some rest) contents = record { text = []; count = 0; lists = λ some. absurd (omega (arith, some)); gains = Appends-nil contents }
+gains_none (Some rest) contents = record { gains = inl (Keeps-refl contents) }
 
-pub gains_front : (known before after : Option (List ℕ)) (text : List ℕ) (count : ℕ) → IfSome known (λ rest. ListsBook (take most_bytes rest) text) → Appends before after (take count text) → IfSome known (λ rest. GainsFront (take most_bytes rest) before after)
-gains_front None before after text count lists gains = tt
-gains_front (Some rest) before after text count lists gains = record { text = text; count = count; lists = λ _. lists; gains = gains }
+pub gains_front : (known before after : Option (List ℕ)) (text : List ℕ) → IfSome known (λ rest. ListsBook (take most_bytes rest) text) → AppendsFront (λ rest. 0 < length rest) before after text → IfSome known (λ rest. GainsFront (take most_bytes rest) before after)
+gains_front None before after text lists gains = tt
+gains_front (Some rest) before after text lists gains = record { gains = inr (text, lists, gains) }
 
 pub gains_listing : (known before after : Option (List ℕ)) (text : List ℕ) → IfSome known (λ rest. ListsBook (take most_bytes rest) text) → Appends before after text → IfSome known (λ rest. GainsListing (take most_bytes rest) before after)
 gains_listing None before after text lists gains = tt
 gains_listing (Some rest) before after text lists gains = record { text = text; lists = lists; gains = gains }
 
--- the bytes behind a place, as a slice to the end has them
-pub rest_of : (bytes : List ℕ) (sent : ℕ) → take (length bytes - sent) (drop sent bytes) ≡ drop sent bytes
-rest_of bytes sent = let size = length-drop sent bytes in take_all (length bytes - sent) (drop sent bytes) (omega arith)
+-- so many bytes of the text
+pub record Written (old cur : Option (List ℕ)) (text : List ℕ) (written : ℕ) : Type 0 where
+  pub within : written ≤ length text
+  pub wrote : Appends old cur (take written text)
+
+pub none_written : (a : Option (List ℕ)) (text : List ℕ) → Written a a text 0
+none_written a text = record { within = omega arith; wrote = Appends-nil a }
+
+take_sum : (a b : ℕ) (xs : List ℕ) → a ≤ length xs → take a xs ++ take b (drop a xs) ≡ take (a + b) xs
+take_sum a b xs fits =
+    let size : length (take a xs) ≡ a = omega (arith, length-take a xs) in
+    sym (take-append-add (take a xs) (drop a xs) b)
+    ∙ (ap (λ n. take (n + b) (take a xs ++ drop a xs)) size ∙ ap (take (a + b)) (take-append-drop a xs))
+
+rest_range : (written : ℕ) (text : List ℕ) → take (length text - written) (drop written text) ≡ drop written text
+rest_range written text = grind (arith, common_steps)
+
+pub some_written : (old cur new : Option (List ℕ)) (text : List ℕ) (written count : ℕ) → Written old cur text written → count ≤ length (take (length text - written) (drop written text)) → Appends cur new (take count (take (length text - written) (drop written text))) → Written old new text (written + count)
+some_written old cur new text written count so_far fits wrote =
+    let range = rest_range written text in
+    let fits_rest : count ≤ length (drop written text) = rw range at fits in
+    let wrote_rest : Appends cur new (take count (drop written text)) = rw range at wrote in
+    record {
+      within = omega (arith, length-drop written text, so_far.within, fits_rest);
+      wrote = subst (λ t. Appends old new t) (take_sum written count text so_far.within) (Appends-trans old cur new (take written text) (take count (drop written text)) so_far.wrote wrote_rest);
+    }
+
+pub rest_left : (old cur : Option (List ℕ)) (text : List ℕ) (written : ℕ) → Written old cur text written → written < length text → AppendsFront (λ rest. 0 < length rest) old cur text
+rest_left old cur text written so_far more =
+    (take written text, drop written text, sym (take-append-drop written text), omega (arith, length-drop written text), so_far.wrote)

@@ -1,6 +1,6 @@
 -- The reading of a whole book, account after account from its first byte, and the text of its listing.
-use Rattle.std.specs.Prelude.{◌≡◌, ℕ, ◌+◌, ◌<◌, true, List, ◌++◌, map, length, take, drop, Ok, Err, codes, decimal, Some, None, Option, Result, IfSome}
-use Rattle.std.specs.Io.KnownBytes.{Appends}
+use Rattle.std.specs.Prelude.{◌≡◌, ℕ, ◌+◌, ◌<◌, ◌⊎◌, true, List, ◌++◌, map, length, take, drop, Ok, Err, codes, decimal, Some, None, Option, Result, IfSome}
+use Rattle.std.specs.Io.KnownBytes.{Appends, Keeps}
 use Rattle.std.specs.List.{flat_map, AllByRecursion}
 use Rattle.snapshot.specs.Accounts.{Account, head_of, lawful}
 use Rattle.snapshot.specs.Refusals.{book_fault, refusal_number}
@@ -9,6 +9,7 @@ use Rattle.snapshot.specs.declared.account.AccountHead.{AccountHead}
 use Rattle.snapshot.specs.declared.fault.BookFault.{BookFault}
 use Rattle.book.specs.declared.reader.AccountAt.{AccountAt}
 use Rattle.book.specs.Format.{account_bytes, front_account}
+use Rattle.book.specs.Outputs.{AppendsFront}
 
 -- a lawful account stands at this place of the book, up to the answered end
 pub record Stands (book : List ℕ) (start : ℕ) (at : AccountAt) : Type 0 where
@@ -94,9 +95,6 @@ pub record GainsListing (book : List ℕ) (before after : Option (List ℕ)) : T
   pub lists : ListsBook book text
   pub gains : Appends before after text
 
--- the known bytes of an output have grown by the first bytes of such a text, or by none
+-- the known bytes of an output are as before, or have grown by a front of such a text, of which something is left
 pub record GainsFront (book : List ℕ) (before after : Option (List ℕ)) : Type 0 where
-  pub text : List ℕ
-  pub count : ℕ
-  pub lists : 0 < count → ListsBook book text
-  pub gains : Appends before after (take count text)
+  pub gains : Keeps before after ⊎ ((text : List ℕ) × ListsBook book text × AppendsFront (λ rest. 0 < length rest) before after text)

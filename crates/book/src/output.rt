@@ -1,7 +1,9 @@
 // From an input to an output: the listing of the book that the input has.
-ghost use Rattle.std.specs.Prelude.{ℕ, IfOk, IfSome, MatchResult, OnErr, OnOk, string_bytes, take};
-ghost use Rattle.std.specs.Io.KnownBytes.{Appends};
+ghost use Rattle.std.specs.Prelude.{◌<◌, length, drop, take, IfOk, IfSome, MatchResult, OnErr, OnOk, string_bytes};
+ghost use Rattle.std.specs.Io.{WritesAtMost};
+ghost use Rattle.std.specs.Io.KnownBytes.{Appends, Keeps, WriteAppends};
 ghost use Rattle.book.specs.Books.{GainsFront, GainsListing, IsFrontOf, ListsBook, most_bytes};
+ghost use Rattle.book.specs.Outputs.{AppendsFront};
 
 use crate::listing::{Listing, read_book};
 use std::alloc::Global;
@@ -19,7 +21,7 @@ pub fn list_book<R: Read + Drop, W: Write>(heap: Global, input: R, output: &mut 
     ensures front { OnErr result (IfSome (R.Read.remaining input) (λ rest. GainsFront (take most_bytes rest) (W.contents output.old) (W.contents output.new))) }
 {
     let text = read_listing(heap, input)?;
-    write_front(output, text.as_bytes())
+    write_whole(output, text.as_bytes())
 }
 
 // The text of the listing of the book on the input.
@@ -47,25 +49,39 @@ fn first_bytes<R: Read + Drop>(heap: Global, input: R) -> io::Result<Vec<u8>>
     Ok(bytes)
 }
 
-// Writes the bytes; after an error the first of them are written.
-fn write_front<W: Write>(output: &mut W, bytes: &[u8]) -> io::Result<()>
-    ensures { MatchResult result (λ _. Appends (W.contents output.old) (W.contents output.new) bytes.now) (λ _. (count : ℕ) × Appends (W.contents output.old) (W.contents output.new) (take count bytes.now)) }
+// Writes all the bytes, in as many writes as it takes. Fails where the output cannot be written, takes none of the bytes
+// that are left, or was interrupted too often; then only a front of the bytes is written, and some of them are left.
+#[tactic(auto, using(crate::proofs::Outputs::some_written, crate::proofs::Outputs::rest_left))]
+pub fn write_whole<W: Write>(output: &mut W, bytes: &[u8]) -> io::Result<()>
+    ensures { MatchResult result (λ _. Appends (W.contents output.old) (W.contents output.new) bytes.now) (λ _. AppendsFront (λ rest. 0 < length rest) (W.contents output.old) (W.contents output.new) bytes.now) }
 {
-    let mut sent = 0;
-    // nothing says how often an output may be interrupted
-    for _ in 0..u64::MAX {
-        if sent >= bytes.len() {
-            return Ok(());
+    let mut written = 0;
+    let mut tries = u64::MAX;
+    while written < bytes.len() {
+        if tries == 0 {
+            return Err(too_many_tries());
         }
-        match output.write(&bytes[sent..]) {
-            Ok(0) => return Err(io::Error::from(ErrorKind::WriteZero)),
-            Ok(count) => sent += count,
-            Err(error) => {
-                if error.kind() != ErrorKind::Interrupted {
-                    return Err(error);
-                }
-            }
-        }
+        tries -= 1;
+        let count = write_once(output, &bytes[written..])?;
+        written += count;
     }
-    Err(io::Error::from(ErrorKind::TimedOut))
+    Ok(())
+}
+
+// Nothing says that an output ever takes a byte: it may interrupt each write.
+fn too_many_tries() -> io::Error {
+    io::Error::new(ErrorKind::TimedOut, "gave up after 2^64 writes")
+}
+
+// Writes once, and answers how many of the bytes were taken: none where the write was interrupted. It is an error where
+// none are taken otherwise.
+fn write_once<W: Write>(output: &mut W, bytes: &[u8]) -> io::Result<usize>
+    ensures bound { WritesAtMost result bytes.now }
+    ensures bytes { WriteAppends (W.contents output.old) (W.contents output.new) result bytes.now }
+{
+    match output.write(bytes) {
+        Ok(0) => Err(io::Error::new(ErrorKind::WriteZero, "no byte was taken")),
+        Err(error) if error.kind() == ErrorKind::Interrupted => Ok(0),
+        written => written,
+    }
 }

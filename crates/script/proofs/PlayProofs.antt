@@ -5,7 +5,8 @@ use Rattle.std.specs.Io.BufRead.{drop_through, take_through}
 use Rattle.std.specs.Io.KnownBytes.{Appends}
 use Rattle.std.specs.List.{onto_first}
 use Rattle.std.specs.Prelude.{IfSome, Result, Ok, Err, if◌then◌else◌}
-use Rattle.script.specs.Failures.{AppendsFront, IsInput, LeavesUnplayed, LeavesUnwritten}
+use Rattle.book.specs.Outputs.{AppendsFront}
+use Rattle.script.specs.Failures.{IsInput, LeavesUnplayed, LeavesUnwritten}
 use Rattle.script.specs.Lines.{line_of}
 use Rattle.script.specs.Played.{Prints, lines_of, parsed_lines}
 use Rattle.script.specs.declared.error.PlayError.{PlayError}

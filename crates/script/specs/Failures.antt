@@ -1,12 +1,9 @@
 -- What was written of a text, and what an error says of the rest of it.
 use Rattle.std.specs.Prelude.{◌≡◌, ℕ, ◌-◌, ◌^◌, ◌<◌, ◌≤◌, List, ◌++◌, length, ⊤, Result, Ok, Err, Option}
 use Rattle.std.specs.Io.KnownBytes.{Appends}
+use Rattle.book.specs.Outputs.{AppendsFront}
 use Rattle.script.specs.declared.error.PlayError.{PlayError}
 use Rattle.script.specs.declared.error.PlayError.TheVariants.{Input, Output, Memory, TooManyLines}
-
--- known bytes grow by a front of the text, and P holds of the rest of it
-abbrev pub AppendsFront : (List ℕ → Type 0) → Option (List ℕ) → Option (List ℕ) → List ℕ → Type 0
-AppendsFront P before after text = (front : List ℕ) × (rest : List ℕ) × (text ≡ front ++ rest) × P rest × Appends before after front
 
 -- the writing of a text ends with this error only where something was left to write
 abbrev pub LeavesUnwritten : PlayError → List ℕ → Type 0

@@ -8,11 +8,12 @@ use Rattle.snapshot.specs.declared.fault.EngineFault.{EngineFault}
 use Rattle.snapshot.specs.declared.fault.Fault.{Fault}
 use Rattle.store.specs.Meaning.{new_store}
 use Rattle.table_store.specs.Tables.{capacity_of, memory_check, table_depth}
+use Rattle.book.specs.Outputs.{AppendsFront}
 use Rattle.engine_model.specs.Engines.{Engine, new_engine}
 use Rattle.engine.specs.Performing.{performed}
 use Rattle.engine.specs.declared.answer.Answer.{Answer}
 use Rattle.engine.specs.declared.answer.Answer.TheVariants as answer
-use Rattle.script.specs.Failures.{AppendsFront, LeavesUnplayed}
+use Rattle.script.specs.Failures.{LeavesUnplayed}
 use Rattle.script.specs.Lines.{line_of}
 use Rattle.script.specs.Shown.{outcome_text, request_text, store_text}
 use Rattle.script.specs.declared.error.PlayError.{PlayError}

@@ -1,6 +1,6 @@
 -- So many bytes were written; each try makes the tries fewer.
-use Rattle.script.proofs.WritingProofs.{Written}
-use Rattle.script.proofs.writing.write_whole.Given as goal
+use Rattle.book.proofs.Outputs.{Written}
+use Rattle.book.proofs.output.write_whole.Given as goal
 
 abbrev pub invariant-loop-written : goal.invariant-loop-written
 invariant-loop-written g l =
