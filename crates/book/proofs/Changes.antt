@@ -1,7 +1,7 @@
 -- One changed byte changes the exclusive-or of bytes.
 use Rattle.std.proofs.Common.{◌≡◌, ℕ, zero, suc, List, [], ◌∷◌, set, fold, sym, ap, ◌∙◌, le_of_suc-le-suc, not-suc-le-zero}
 use lib.Bits.{bit_xor, xor_assoc, xor_comm, xor_self, xor_zero_l, xor_zero_r}
-use Rattle.book.specs.Bytes.{TellsOneChange, exclusive_or}
+use Rattle.book.specs.Bytes.{DetectsOneChange, exclusive_or}
 
 -- a start may as well be added last
 start_last : (a : ℕ) (bs : List ℕ) → fold bit_xor a bs ≡ bit_xor a (exclusive_or bs)
@@ -20,7 +20,7 @@ twice a x = sym (xor_assoc a a x) ∙ ap (λ n. bit_xor n x) (xor_self a) ∙ xo
 cancel : (a x y : ℕ) → bit_xor a x ≡ bit_xor a y → x ≡ y
 cancel a x y e = sym (twice a x) ∙ ap (bit_xor a) e ∙ twice a y
 
-pub one_change : (bs : List ℕ) → TellsOneChange bs
+pub one_change : (bs : List ℕ) → DetectsOneChange bs
 one_change [] i b lt e = absurd (not-suc-le-zero lt)
 one_change (x ∷ xs) zero b lt e =
     let rest = exclusive_or xs in

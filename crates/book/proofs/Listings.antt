@@ -5,7 +5,7 @@ use Rattle.std.proofs.lemmas.List.{append_assoc, flat_map_more, length-append, l
 use Rattle.std.specs.List.{flat_map, AllByRecursion}
 use Rattle.snapshot.specs.Accounts.{Account, head_of, lawful}
 use Rattle.snapshot.specs.declared.account.AccountHead.{AccountHead}
-use Rattle.book.specs.Books.{ReadBehind, Stands}
+use Rattle.book.specs.Books.{ReadBehind, IsAccountAt}
 use Rattle.book.specs.Format.{account_bytes, size_of}
 use Rattle.book.specs.declared.reader.AccountAt.{AccountAt}
 use Rattle.book.proofs.RoundTrip.{takes_its_size}
@@ -19,7 +19,7 @@ pub record SoFar (book : List ℕ) (heads : List AccountHead) (start : ℕ) : Ty
   pub place : start ≡ length (flat_map account_bytes accounts)
 
 -- an account takes some bytes
-pub goes_on : {book : List ℕ} {start : ℕ} {at : AccountAt} → Stands book start at → start < at.end
+pub goes_on : {book : List ℕ} {start : ℕ} {at : AccountAt} → IsAccountAt book start at → start < at.end
 goes_on s = omega (arith, s.takes, takes_its_size s.account)
 
 many_bytes : (done : List Account) → size_of 0 0 * length done ≤ length (flat_map account_bytes done)
@@ -31,7 +31,7 @@ module _ {book : List ℕ} {heads : List AccountHead} {start : ℕ} (s : SoFar b
   pub so_far_few : size_of 0 0 * length heads ≤ start
   so_far_few = omega (arith, many_bytes s.accounts, s.place, ap length s.listed, length-map s.accounts head_of)
 
-  pub so_far_more : {at : AccountAt} {more : List AccountHead} → Stands book start at → more ≡ heads ++ (at.head ∷ []) → SoFar book more at.end
+  pub so_far_more : {at : AccountAt} {more : List AccountHead} → IsAccountAt book start at → more ≡ heads ++ (at.head ∷ []) → SoFar book more at.end
   so_far_more {at} {more} next pushed =
       let done = s.accounts in
       let a = next.account in
@@ -54,7 +54,7 @@ pub record Behind (before after : List AccountHead) (book : List ℕ) (start : �
   pub read : SoFar book heads start
 
 module _ {before after : List AccountHead} {book : List ℕ} {start : ℕ} (b : Behind before after book start) where
-  pub behind_more : {at : AccountAt} {more : List AccountHead} → Stands book start at → more ≡ after ++ (at.head ∷ []) → Behind before more book at.end
+  pub behind_more : {at : AccountAt} {more : List AccountHead} → IsAccountAt book start at → more ≡ after ++ (at.head ∷ []) → Behind before more book at.end
   behind_more {at} next pushed =
       record {
         heads = b.heads ++ (at.head ∷ []);
@@ -63,7 +63,7 @@ module _ {before after : List AccountHead} {book : List ℕ} {start : ℕ} (b : 
       }
 
   -- a list with room for as many accounts as the book can have has room for the one that stands here
-  pub has_room : {at : AccountAt} (room : ℕ) → Stands book start at → length before + length book / size_of 0 0 ≤ room → length after < room
+  pub has_room : {at : AccountAt} (room : ℕ) → IsAccountAt book start at → length before + length book / size_of 0 0 ≤ room → length after < room
   has_room {at} room next enough =
       let a = next.account in
       let fits = ap length next.bytes ∙ length-append (account_bytes a) (drop at.end book) in
@@ -71,7 +71,7 @@ module _ {before after : List AccountHead} {book : List ℕ} {start : ℕ} (b : 
       omega (arith, so_far_few b.read, takes_its_size a, fits, length-drop start book, more)
 
   -- where the account that stands here was not added, the list has those that were read so far
-  pub read_behind : {at : AccountAt} {more : List AccountHead} → Stands book start at → more ≡ after → ReadBehind before more book
+  pub read_behind : {at : AccountAt} {more : List AccountHead} → IsAccountAt book start at → more ≡ after → ReadBehind before more book
   read_behind {at} next same =
       let r = b.read in
       record {
@@ -80,5 +80,5 @@ module _ {before after : List AccountHead} {book : List ℕ} {start : ℕ} (b : 
         behind = same ∙ b.behind ∙ ap (λ hs. before ++ hs) r.listed;
         front = r.read ∙ ap (λ n. flat_map account_bytes r.accounts ++ drop n book) r.place;
         next = at;
-        stands = subst (λ n. Stands book n at) r.place next;
+        stands = subst (λ n. IsAccountAt book n at) r.place next;
       }

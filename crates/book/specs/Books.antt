@@ -12,7 +12,7 @@ use Rattle.book.specs.Format.{account_bytes, front_account}
 use Rattle.book.specs.Outputs.{AppendsFront}
 
 -- a lawful account stands at this place of the book, up to the answered end
-pub record Stands (book : List ℕ) (start : ℕ) (at : AccountAt) : Type 0 where
+pub record IsAccountAt (book : List ℕ) (start : ℕ) (at : AccountAt) : Type 0 where
   pub account : Account
   pub head : at.head ≡ head_of account
   pub lawfully : lawful account ≡ true
@@ -24,9 +24,9 @@ pub record Refused (book : List ℕ) (start : ℕ) (f : BookFault) : Type 0 wher
   pub fault : f ≡ book_fault f.fault.refusal start
   pub reason : front_account (drop start book) ≡ Err f.fault.refusal
 
-abbrev pub StandsOrRefused : List ℕ → ℕ → Result AccountAt BookFault → Type 0
-StandsOrRefused book start (Ok at) = Stands book start at
-StandsOrRefused book start (Err f) = Refused book start f
+abbrev pub AccountOrRefused : List ℕ → ℕ → Result AccountAt BookFault → Type 0
+AccountOrRefused book start (Ok at) = IsAccountAt book start at
+AccountOrRefused book start (Err f) = Refused book start f
 
 -- where the reading of a book ends: at its end, or behind these bytes where more follow and the account there is refused with
 -- this fault
@@ -57,7 +57,7 @@ pub record ReadBehind (before after : List AccountHead) (book : List ℕ) : Type
   pub behind : after ≡ before ++ map head_of accounts
   pub front : book ≡ flat_map account_bytes accounts ++ drop (length (flat_map account_bytes accounts)) book
   pub next : AccountAt
-  pub stands : Stands book (length (flat_map account_bytes accounts)) next
+  pub stands : IsAccountAt book (length (flat_map account_bytes accounts)) next
 
 -- The text of a listing.
 

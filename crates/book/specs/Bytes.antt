@@ -21,5 +21,5 @@ abbrev pub exclusive_or : List ℕ → ℕ
 exclusive_or bs = fold bit_xor 0 bs
 
 -- one changed byte changes the exclusive-or: where it is the same, the byte is as it was
-abbrev pub TellsOneChange : List ℕ → Type 0
-TellsOneChange bs = (i b : ℕ) → i < length bs → exclusive_or (slice_set bs i b) ≡ exclusive_or bs → b ≡ slice_index bs i
+abbrev pub DetectsOneChange : List ℕ → Type 0
+DetectsOneChange bs = (i b : ℕ) → i < length bs → exclusive_or (slice_set bs i b) ≡ exclusive_or bs → b ≡ slice_index bs i

@@ -8,7 +8,7 @@ use Rattle.snapshot.specs.declared.account.Reading.{Reading}
 use Rattle.snapshot.specs.declared.account.Write.{Write}
 use Rattle.snapshot.specs.declared.fault.Refusal.{Refusal}
 use Rattle.snapshot.specs.declared.fault.Refusal.TheVariants.{AccountCut, WrongMark, WrongLastByte, Unlawful}
-use Rattle.book.specs.declared.account.Account.{Account as Told}
+use Rattle.book.specs.declared.account.Account.{Account as BorrowedAccount}
 use Rattle.book.specs.declared.reader.Counts.{Counts}
 use Rattle.book.specs.Bytes.{highest_first, number_at, records_from, exclusive_or}
 
@@ -22,8 +22,8 @@ write_size = 5
 abbrev pub head_size : ℕ
 head_size = 28
 
--- the account that a value of the code tells
-abbrev pub as_account : Told → Account
+-- the account that a value of the code stands for
+abbrev pub as_account : BorrowedAccount → Account
 as_account a =
     record {
       low = a.interval.low;

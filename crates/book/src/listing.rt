@@ -1,6 +1,6 @@
 // The reading of a whole book, and the text that lists its accounts.
 ghost use Rattle.std.specs.Prelude.{◌≡◌, ◌+◌, ◌/◌, ◌≤◌, true, length, is_ok, IfOk, OnErr, Some, vec_len, vec_capacity};
-ghost use Rattle.book.specs.Books.{ListedBehind, ReadBehind, StandsOrRefused, listing_text};
+ghost use Rattle.book.specs.Books.{ListedBehind, ReadBehind, AccountOrRefused, listing_text};
 ghost use Rattle.book.specs.Format.{size_of};
 
 use crate::reader::{AccountAt, account_at};
@@ -36,7 +36,7 @@ pub fn read_book(book: &[u8], heads: &mut Vec<AccountHead>) -> Result<Option<Boo
 
 // The five numbers of the account at this place, and the place after it.
 fn read_head(book: &[u8], start: usize) -> Result<AccountAt, BookFault>
-    ensures { StandsOrRefused book.now start result }
+    ensures { AccountOrRefused book.now start result }
 {
     let stored = account_at(book, start)?;
     Ok(stored.account().located(start))

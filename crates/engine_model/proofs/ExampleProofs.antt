@@ -11,7 +11,7 @@ use Rattle.snapshot.specs.declared.fault.Refusal.TheVariants.{VersionGone}
 use Rattle.store.specs.Laws.{LatestAt}
 use Rattle.store.specs.Meaning.{issued, version_of, versions_below, query_fault, written_to}
 use Rattle.store.specs.declared.version.Version.{Version}
-use Rattle.engine_model.specs.Examples.{BreakInAccount, BreakIn, ForgottenPromise, LatePromise, LatePromiseListed, read, read_at_ten, table, break_in, break_in_account, read_then_pruned, pruned, then_committed, forgets_promise, written_behind, promises_late, read_from_cache}
+use Rattle.engine_model.specs.Examples.{BreakInAccount, BreakIn, IgnoredPromise, LatePromise, LatePromiseListed, read, read_at_ten, table, break_in, break_in_account, read_then_pruned, pruned, then_committed, ignores_promise, written_behind, promises_late, read_from_cache}
 use Rattle.engine_model.specs.Law.{ValueAt, TrueOf, AccountLaw, GoneLaw, TraceLaw, leg_at}
 use Rattle.engine_model.specs.Traces.{Event, event, Trace, AtEach, NewStore, ValueRead, value_read, engine_after, trace_of, history_of, store_after, observed_of, untimed, observed_readings}
 use Rattle.engine_model.specs.Rules.{Rules, the_rules}
@@ -164,10 +164,10 @@ break_in_shows =
 
 -- A wrong rule: what the law would say of the account is what the history does not hold.
 
-pub forgotten_promise : ForgottenPromise
+pub ignored_promise : IgnoredPromise
 unfolding check with_chain with_open with_open_leg if_free with_result or_else versions_below
-forgotten_promise =
-    let broken : TraceLaw forgets_promise table (then_committed forgets_promise written_behind) → ⊥ = λ law.
+ignored_promise =
+    let broken : TraceLaw ignores_promise table (then_committed ignores_promise written_behind) → ⊥ = λ law.
     not_five_at_thirty ((law.commits.0 0 0 0 32 8 _ refl).agrees 30 (omega arith, omega arith)).0 in
     record {
       committed = refl;

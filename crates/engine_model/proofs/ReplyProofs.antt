@@ -18,7 +18,7 @@ use Rattle.snapshot.specs.declared.fault.Refusal.TheVariants.{OutOfRange, Interv
 use Rattle.store.specs.Meaning.{Meaning, in_range, query_fault, store_fault, timestamp_for, if_room, written_to, version_answer, commit_answer}
 use Rattle.engine_model.specs.Caches.{answering}
 use Rattle.engine_model.specs.Engines.{OpenLeg, Chain, Engine}
-use Rattle.engine_model.specs.Replies.{Reply, refused, values_of, refusals_of, CanReply, CanReplyInTrace, Replies, RepliesInEveryTrace, reply_of, refusal_reply}
+use Rattle.engine_model.specs.Replies.{Reply, refused, fault_numbers, refusals_of, CanReply, CanReplyInTrace, Replies, RepliesInEveryTrace, reply_of, refusal_reply}
 use Rattle.engine_model.specs.Rules.{the_rules}
 use Rattle.engine_model.specs.StoreRefusals.{StoreRefusals}
 use Rattle.engine_model.specs.Traces.{event, Trace, engine_after}
@@ -174,7 +174,7 @@ store_number r = None
 
 inside_differs :
     (o : Option Fault) (n : ℕ) → ((inner : Fault) → o ≡ Some inner → refusal_number inner.refusal ≡ n → ⊥) →
-    option_map (λ v. v.number) (option_map values_of o) ≡ Some n → ⊥
+    option_map (λ v. v.number) (option_map fault_numbers o) ≡ Some n → ⊥
 inside_differs None n never is = absurd cc
 inside_differs (Some inner) n never is = never inner refl (cc is)
 

@@ -26,8 +26,8 @@ read w k x t p = record { worker = w; key = k; reading = record { value = x; tim
 abbrev pub wrote : ℕ → ℕ → Write
 wrote k x = record { key = k; value = x }
 
-abbrev pub account : ℕ → ℕ → ℕ → List ChainReading → List Write → Account
-account l h t rs ws = record { low = l; high = h; timestamp = t; readings = rs; writes = ws }
+abbrev pub account_with : ℕ → ℕ → ℕ → List ChainReading → List Write → Account
+account_with l h t rs ws = record { low = l; high = h; timestamp = t; readings = rs; writes = ws }
 
 -- A late notice, a split chain and a dropped version meet. Key 7 is the dock's zone, 9 its set record, 11 the guard's orders.
 
@@ -66,7 +66,7 @@ table = new_table 1024 (lit≤ tt)
 -- what all three readings agree on is time 20: the zone was 5 and the set record 3
 abbrev pub break_in_account : Account
 break_in_account =
-    account 20 20 40 (read 1 7 5 10 20 ∷ read 2 9 3 20 30 ∷ read 5 7 5 10 29 ∷ []) (wrote 11 1 ∷ [])
+    account_with 20 20 40 (read 1 7 5 10 20 ∷ read 2 9 3 20 30 ∷ read 5 7 5 10 29 ∷ []) (wrote 11 1 ∷ [])
 
 -- What that account has by the law, whatever else is in it.
 pub record BreakInAccount (a : Account) : Type 0 where
@@ -133,8 +133,8 @@ pub record Breaks (rules : Rules) (calls : List Call) (shown : Account) : Type 0
   pub unlawful : KeepTraceLaw rules → ⊥
 
 -- narrowing forgets the promise
-abbrev pub forgets_promise : Rules
-forgets_promise = rules_but version_answer (λ i r. from_to (max i.low r.timestamp) i.high)
+abbrev pub ignores_promise : Rules
+ignores_promise = rules_but version_answer (λ i r. from_to (max i.low r.timestamp) i.high)
 
 -- a chain reads the zone, and before it commits another one writes it
 abbrev pub written_behind : List Call
@@ -145,8 +145,8 @@ written_behind =
     ∷ []
 
 -- the commit's account says so of all times from 10 on
-abbrev pub ForgottenPromise : Type 0
-ForgottenPromise = Breaks forgets_promise written_behind (account 10 open_end 0 (read 1 7 5 10 10 ∷ []) [])
+abbrev pub IgnoredPromise : Type 0
+IgnoredPromise = Breaks ignores_promise written_behind (account_with 10 open_end 0 (read 1 7 5 10 10 ∷ []) [])
 
 -- a promise is one too late: where there is a next version, that one's own timestamp
 abbrev pub one_too_late : Meaning → Reading → Reading
@@ -179,7 +179,7 @@ read_from_cache = read_at_ten ++ (call.Commit 0 0 0 32 8 ∷ call.Begin 0 1 ∷ 
 
 -- the account of the second chain says so of times 10 to 30
 abbrev pub LatePromise : Type 0
-LatePromise = Breaks promises_late read_from_cache (account 10 30 0 (read 1 7 5 10 30 ∷ []) [])
+LatePromise = Breaks promises_late read_from_cache (account_with 10 30 0 (read 1 7 5 10 30 ∷ []) [])
 
 -- That of the first chain has the right interval, but lists a reading that is not true: the zone as 5 up to time 30.
 pub record ListsUntrue (rules : Rules) (calls : List Call) (shown : Account) : Type 0 where
@@ -197,4 +197,4 @@ pub record ListsUntrue (rules : Rules) (calls : List Call) (shown : Account) : T
   pub contradicts : TraceLaw rules table (then_committed rules calls) → ⊥
 
 abbrev pub LatePromiseListed : Type 0
-LatePromiseListed = ListsUntrue promises_late read_at_ten (account 10 10 0 (read 1 9 0 0 10 ∷ read 1 7 5 10 30 ∷ []) [])
+LatePromiseListed = ListsUntrue promises_late read_at_ten (account_with 10 10 0 (read 1 9 0 0 10 ∷ read 1 7 5 10 30 ∷ []) [])

@@ -36,8 +36,8 @@ pub data Reply : Type 0 where
   done : Reply
   refused : FaultValues → Option FaultValues → Reply
 
-abbrev pub values_of : Fault → FaultValues
-values_of f = record { number = refusal_number f.refusal; layer = f.layer; place = f.place; leg = f.leg; key = f.key }
+abbrev pub fault_numbers : Fault → FaultValues
+fault_numbers f = record { number = refusal_number f.refusal; layer = f.layer; place = f.place; leg = f.leg; key = f.key }
 
 -- the reply to an accepted call, and to a refused one
 abbrev pub reply_by : (c : Call) → AnswerTo c → Reply
@@ -55,7 +55,7 @@ reply_by call.Count n = counts n.0 n.1
 reply_by (call.Prune h) u = done
 
 abbrev pub refusal_reply : EngineFault → Reply
-refusal_reply f = refused (values_of f.fault) (option_map values_of f.of_store)
+refusal_reply f = refused (fault_numbers f.fault) (option_map fault_numbers f.of_store)
 
 abbrev pub reply_of : (c : Call) → Result (AnswerTo c) EngineFault → Reply
 reply_of c (Ok x) = reply_by c x
@@ -99,7 +99,7 @@ abbrev pub by_store : ℕ → ℕ → ℕ → ℕ → ℕ → Reply
 by_store number p l k store_key =
     refused (fault_values number layer.Store p l k) (Some (fault_values number layer.Store 255 255 store_key))
 
--- every refusal that a call can come to in a trace
+-- the refusals that a call may be answered with in a trace, and no others
 abbrev pub refusals_of : Call → List Reply
 refusals_of (call.Begin p w) = by_chain 1 p 255 255 ∷ by_chain 2 p 255 255 ∷ []
 refusals_of (call.Hand p l w) = by_chain 1 p l 255 ∷ by_chain 3 p l 255 ∷ by_chain 5 p l 255 ∷ []

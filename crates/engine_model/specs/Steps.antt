@@ -98,7 +98,7 @@ unfoldable pub or_else : {X Y : Type 0} → Option Y → (Y → StepOutcome X) �
 or_else None found next = next
 or_else (Some y) found next = found y
 
--- What chains are asked.
+-- Queries of a chain.
 
 -- the reading of a key that this leg has made
 abbrev pub own_reading : ℕ → ℕ → List LegReading → Option LegReading

@@ -43,7 +43,7 @@ pub record NewStore : Type 0 where
   pub capacity : ℕ
   pub room : key_count ≤ capacity
 
--- a new table of this capacity, and a new newest store
+-- a new table of this capacity (16 is the table store's depth), and a new newest store
 abbrev pub new_table : (capacity : ℕ) → key_count ≤ capacity → NewStore
 new_table capacity room = record { depth = 16; not_none = lit≤ tt; capacity = capacity; room = room }
 

@@ -111,7 +111,7 @@ pub fn break_in() -> [Call; 21]
 // commit after these calls shows what was not so.
 pub fn written_behind() -> [Call; 8]
     ensures calls { result ≡ example.written_behind }
-    ensures breaks { example.ForgottenPromise }
+    ensures breaks { example.IgnoredPromise }
 {
     [
         begin(0, 1),

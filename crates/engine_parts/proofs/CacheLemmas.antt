@@ -24,12 +24,12 @@ nothing_out k (x ∷ xs) e =
     ap (λ b. cond b xs (x ∷ without k xs)) h.0 ∙ ap (λ ys. x ∷ ys) (nothing_out k xs h.1)
 
 -- and a notice has no effect
-pub nothing_observed : (n : Notice) (c : Cache) → place_of_entry n.key c ≡ None → with_notice n c ≡ c
-nothing_observed n [] e = refl
-nothing_observed n (x ∷ xs) e =
+pub no_entry_unchanged : (n : Notice) (c : Cache) → place_of_entry n.key c ≡ None → with_notice n c ≡ c
+no_entry_unchanged n [] e = refl
+no_entry_unchanged n (x ∷ xs) e =
     let h = none_behind (eqb x.key n.key) (place_of_entry n.key xs) e in
     ap (λ b. cond b (entry_of x.key (noticed n.reading x.reading) ∷ xs) (x ∷ with_notice n xs)) h.0
-    ∙ ap (λ ys. x ∷ ys) (nothing_observed n xs h.1)
+    ∙ ap (λ ys. x ∷ ys) (no_entry_unchanged n xs h.1)
 
 -- else the entry takes what the notice makes of its reading
 pub notified_at :

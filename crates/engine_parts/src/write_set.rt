@@ -27,7 +27,7 @@ impl WriteSet {
         }
     }
 
-    // The writes, from the first to the last: by their keys, in a set that was made by the calls below.
+    // The writes, from the first to the last.
     pub fn as_slice(&self) -> &[Write]
         ensures value { result.now ≡ writes_of self.now }
         ensures fits { length result.now ≤ 8 }

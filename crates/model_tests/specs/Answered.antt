@@ -12,11 +12,11 @@ use Rattle.engine_model.specs.declared.calls.Call.{Call}
 -- The replies as the vectors have them: an account by its low, high, timestamp, readings and writes; a refusal by its number, layer,
 -- place, leg and key, without the store's own fault inside.
 
-abbrev pub committed : ℕ → ℕ → ℕ → List ChainReading → List Write → Reply
-committed low high t rs ws = account (record { low = low; high = high; timestamp = t; readings = rs; writes = ws })
+abbrev pub account_reply : ℕ → ℕ → ℕ → List ChainReading → List Write → Reply
+account_reply low high t rs ws = account (record { low = low; high = high; timestamp = t; readings = rs; writes = ws })
 
-abbrev pub refused : ℕ → Layer → ℕ → ℕ → ℕ → Reply
-refused number by p l k = reply.refused (fault_values number by p l k) None
+abbrev pub refused_reply : ℕ → Layer → ℕ → ℕ → ℕ → Reply
+refused_reply number by p l k = reply.refused (fault_values number by p l k) None
 
 abbrev pub without_store_fault : Reply → Reply
 without_store_fault (leg n) = leg n

@@ -19,7 +19,7 @@ IsInput (Output e) = ⊥
 IsInput Memory = ⊥
 IsInput TooManyLines = ⊥
 
--- The whole text was written, or the error says why only a front of it was.
+-- The whole text was written, or a front of it was, and the error is one that can come there.
 abbrev pub Writes : Result (Unit {0}) PlayError → Option (List ℕ) → Option (List ℕ) → List ℕ → Type 0
 Writes (Ok u) before after text = Appends before after text
 Writes (Err e) before after text = AppendsFront (LeavesUnwritten e) before after text

@@ -90,7 +90,7 @@ abbrev pub printed : List ℕ → List ℕ
 printed script = played 1 (parsed_lines script)
 
 -- What a call printed of the text that this draws from the bytes which the input had left, when so many lines had been read
--- before: all of it, or, with an error that says why, a front of it. Where the bytes of the input or of the output are not
+-- before: all of it, or, with an error, a front of it. Where the bytes of the input or of the output are not
 -- known, as at a terminal, it says nothing.
 abbrev pub Prints : Result (Unit {0}) PlayError → ℕ → Option (List ℕ) → Option (List ℕ) → Option (List ℕ) → (List ℕ → List ℕ) → Type 0
 Prints (Ok u) lines left before after text = IfSome left (λ rest. Appends before after (text rest))

@@ -4,7 +4,7 @@ ghost use Rattle.snapshot.specs.Finding.{first_with, FirstMeans};
 
 use crate::account::{ChainReading, Write};
 
-// A record that can be asked whether it has a key.
+// A record that can have a key.
 pub trait Keyed<K> {
     ghost named: { Self → K → Bool };
 

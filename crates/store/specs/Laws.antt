@@ -1,4 +1,4 @@
--- What holds of every store after any calls on a new one, told by what was ever committed.
+-- What holds of every store after any calls on a new one, in terms of all that was ever committed.
 use Rattle.std.specs.Prelude.{◌≡◌, ℕ, ◌+◌, ◌<◌, ◌≤◌, min, true, List, [], ◌∷◌, ◌++◌, length, filter, Some, None, Ok, Err, Option, nat_lt, slice_index_or, is_ok}
 use Rattle.std.specs.Result.{result_ok}
 use Rattle.std.specs.List.{ContainsAt as Has, AllByRecursion}
@@ -41,7 +41,7 @@ versions_from_calls [] bs k = []
 versions_from_calls (c ∷ cs) [] k = []
 versions_from_calls (c ∷ cs) (b ∷ bs) k = versions_from_call c b k ++ versions_from_calls cs bs k
 
--- all that a key ever had, oldest first: value 0 at time 0, then what the calls gave it, told from calls and answers alone
+-- all that a key ever had, oldest first: value 0 at time 0, then what the calls gave it, by calls and answers alone
 abbrev pub all_versions : List StoreCall → List StoreAnswer → ℕ → List Version
 all_versions calls answers k = version_of 0 0 ∷ versions_from_calls calls answers k
 
@@ -127,7 +127,7 @@ pub record CommitLaw (depth : ℕ) (m after : Meaning) (ever : ℕ → List Vers
   -- no other key changes
   pub of_others : (k : ℕ) → AllByRecursion (λ w. w.key ≡ k → ⊥) ws → after.kept k ≡ m.kept k
 
--- how many versions more these writes make: one for each key that keeps fewer than the depth
+-- how many versions more these writes make: one for each written key that keeps fewer than the depth
 abbrev pub versions_gained : ℕ → List Write → Meaning → ℕ
 versions_gained depth ws m = length (filter (λ w. nat_lt (length (m.kept w.key)) depth) ws)
 

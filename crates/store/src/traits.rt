@@ -24,7 +24,7 @@ pub trait Reads {
         ensures { result ≡ version_answer (meaning self.now) key time };
 }
 
-// A store that can be written to, and told to forget old versions.
+// A store that can be written to, and pruned of old versions.
 pub trait Store: Reads {
     // the most versions that a store of this kind keeps of one key
     ghost depth: { ℕ };

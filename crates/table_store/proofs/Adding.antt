@@ -5,22 +5,22 @@ use Rattle.snapshot.specs.declared.account.Write.{Write}
 use Rattle.store.specs.Meaning.{written_to}
 use Rattle.table_store.proofs.Dropping.{same_function}
 use Rattle.table_store.specs.PerKeys.{per_key}
-use Rattle.table_store.specs.Records.{Listing, after_writes, drop_firsts, excess, first_records, of_key, record_of, with_all, with_one_more, with_records, written}
+use Rattle.table_store.specs.Records.{RecordsHeld, after_writes, drop_firsts, excess, first_records, of_key, record_of, with_all, with_one_more, with_records, written}
 use Rattle.table_store.specs.declared.record.Record.{Record}
 
-all_more : (rs : List Record) (r : Record) (l : Listing) → with_all (rs ++ r ∷ []) l ≡ with_one_more (with_all rs l) r
+all_more : (rs : List Record) (r : Record) (l : RecordsHeld) → with_all (rs ++ r ∷ []) l ≡ with_one_more (with_all rs l) r
 all_more [] r l = refl
 all_more (q ∷ rs) r l = all_more rs r (with_one_more l q)
 
-pub first_none : (l : Listing) → with_all (first_records 0) l ≡ l
+pub first_none : (l : RecordsHeld) → with_all (first_records 0) l ≡ l
 unfolding first_records
 first_none l = refl
 
-pub first_more : (k : ℕ) (l : Listing) → with_all (first_records (k + 1)) l ≡ with_one_more (with_all (first_records k) l) (record_of k 0 0)
+pub first_more : (k : ℕ) (l : RecordsHeld) → with_all (first_records (k + 1)) l ≡ with_one_more (with_all (first_records k) l) (record_of k 0 0)
 unfolding first_records
 first_more k l = ap (λ n. with_all (first_records n) l) (add-one k) ∙ all_more (first_records k) (record_of k 0 0) l
 
-pub room_for_all : (rs : List Record) (l : Listing) → length l.records + length rs ≤ l.room → with_all rs l ≡ with_records (l.records ++ rs) l
+pub room_for_all : (rs : List Record) (l : RecordsHeld) → length l.records + length rs ≤ l.room → with_all rs l ≡ with_records (l.records ++ rs) l
 room_for_all [] l fits = ap (λ xs. with_records xs l) (sym (append-nil l.records))
 room_for_all (r ∷ rs) l fits =
     let more = length_push l.records r in

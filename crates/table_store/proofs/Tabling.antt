@@ -17,14 +17,14 @@ use Rattle.table_store.proofs.Layouts.{all_from, all_left, order_left, commit_so
 use Rattle.table_store.proofs.Memory.{fit_room, unfit_room}
 use Rattle.table_store.proofs.Uniqueness.{one_layout}
 use Rattle.table_store.specs.PerKeys.{per_key}
-use Rattle.table_store.specs.Records.{Listing, after_writes, drop_firsts, excess, first_records, if_fits, no_record, of_key, with_all, with_records, without_outdated}
+use Rattle.table_store.specs.Records.{RecordsHeld, after_writes, drop_firsts, excess, first_records, if_fits, no_record, of_key, with_all, with_records, without_outdated}
 use Rattle.table_store.specs.Stores.{HoldsVersions, meaning_of}
 use Rattle.table_store.specs.Tables.{HeldIn, LaidOut, capacity_of, in_order, is_table_size, is_zero, listing_in, room_in, shown_in, sound_record, sound_table, table_meaning, zeros_after}
 use Rattle.table_store.specs.declared.record.Record.{Record}
 use Rattle.table_store.specs.declared.slice.RecordSlice.{RecordSlice}
 use Rattle.table_store.specs.declared.table.Table.{Table}
 
-abbrev pub listing : RecordSlice → Listing
+abbrev pub listing : RecordSlice → RecordsHeld
 listing l = listing_in l.memory.now l.kept
 
 -- Fit and unfit memory.

@@ -21,19 +21,19 @@ written t w = record_of w.key t w.value
 -- Lists in memory.
 
 -- the records of a list, and how many its memory has room for
-pub record Listing : Type 0 where
+pub record RecordsHeld : Type 0 where
   pub records : List Record
   pub room : ℕ
 
-abbrev pub with_records : List Record → Listing → Listing
+abbrev pub with_records : List Record → RecordsHeld → RecordsHeld
 with_records rs l = record { records = rs; room = l.room }
 
 -- one record more, where there is room for it
-abbrev pub with_one_more : Listing → Record → Listing
+abbrev pub with_one_more : RecordsHeld → Record → RecordsHeld
 with_one_more l r = with_records (take l.room (l.records ++ (r ∷ []))) l
 
 -- these records more, as far as there is room
-abbrev pub with_all : List Record → Listing → Listing
+abbrev pub with_all : List Record → RecordsHeld → RecordsHeld
 with_all rs l = fold with_one_more l rs
 
 -- What each key has, and what it drops.

@@ -5,7 +5,7 @@ use Rattle.snapshot.specs.Limits.{key_count, least_records, most_records, is_key
 use Rattle.snapshot.specs.declared.fault.Fault.{Fault}
 use Rattle.snapshot.specs.declared.fault.Refusal.TheVariants.{UnfitMemory}
 use Rattle.store.specs.Meaning.{Meaning, store_fault}
-use Rattle.table_store.specs.Records.{Listing, first_records, no_record, of_key}
+use Rattle.table_store.specs.Records.{RecordsHeld, first_records, no_record, of_key}
 use Rattle.table_store.specs.declared.record.Record.{Record}
 
 -- the most versions of one key
@@ -21,7 +21,7 @@ abbrev pub room_in : List Record → ℕ
 room_in mem = if is_table_size (length mem) then length mem else 0
 
 -- the list in memory: the first records, as many as are kept
-abbrev pub listing_in : List Record → ℕ → Listing
+abbrev pub listing_in : List Record → ℕ → RecordsHeld
 listing_in mem n = record { records = take n mem; room = room_in mem }
 
 abbrev pub is_zero : Record → Bool

@@ -75,7 +75,7 @@ impl<'a> Table<'a> {
     }
 
     // Drops of each key what is outdated at this time.
-    fn forget(&mut self, time: u64)
+    fn prune_at(&mut self, time: u64)
         ensures after { meaning_of self.new ≡ pruned_at time (meaning_of self.old) }
         ensures alone { LeavesUnfit self.old self.new }
     {
@@ -148,6 +148,6 @@ impl Store for Table<'_> {
         ensures laid { HoldsVersions self.new }
         ensures alone { LeavesUnfit self.old self.new }
     {
-        self.forget(horizon.min(self.last));
+        self.prune_at(horizon.min(self.last));
     }
 }

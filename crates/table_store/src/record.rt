@@ -2,7 +2,7 @@
 ghost use Rattle.std.specs.Prelude.{◌≡◌, ◌≤◌, length};
 ghost use Rattle.std.specs.Fn.{CalledAt};
 ghost use Rattle.std.specs.List.Retain.{IsFiltered};
-ghost use Rattle.table_store.specs.Records.{Listing, with_one_more};
+ghost use Rattle.table_store.specs.Records.{RecordsHeld, with_one_more};
 
 // One version of one key.
 #[derive(Clone, Copy, PartialEq, Eq, Debug)]
@@ -22,7 +22,7 @@ pub const NO_RECORD: Record = Record {
 // A list of records, oldest first, in memory of a fixed size.
 pub(crate) trait RecordList {
     // the records, and how many there is room for
-    ghost listing: { Self → Listing };
+    ghost listing: { Self → RecordsHeld };
 
     fn records(&self) -> &[Record]
         ensures { result.now ≡ (listing self.now).records };

@@ -1,6 +1,6 @@
 -- The trace is computed in a lemma.
-use Rattle.engine_model.proofs.ExampleProofs.{forgotten_promise}
+use Rattle.engine_model.proofs.ExampleProofs.{ignored_promise}
 use Rattle.engine_model.proofs.examples.written_behind.Goals as goal
 
 pub returns-clause-breaks : goal.returns-clause-breaks
-returns-clause-breaks c = forgotten_promise
+returns-clause-breaks c = ignored_promise

@@ -1,7 +1,7 @@
 -- Fit memory loses what is outdated; unfit memory is as it was, and has nothing that is outdated.
 use Rattle.std.proofs.Common.{sym}
 use Rattle.table_store.proofs.Tabling.{table_prune, table_prune_unfit}
-use Rattle.table_store.proofs.table.Table.forget.Goals as goal
+use Rattle.table_store.proofs.table.Table.prune_at.Goals as goal
 
 pub invariant_of-self : goal.invariant_of-self
 invariant_of-self c =
