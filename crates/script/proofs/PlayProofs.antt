@@ -1,5 +1,6 @@
 -- What is still to be printed, while lines are played.
 use Rattle.std.proofs.Common.{◌≡◌, ℕ, ◌+◌, ◌-◌, ◌^◌, ◌≤◌, ◌==◌, cond, List, [], ◌∷◌, ◌++◌, length, map, Option, Some, None, ◌<◌, Bool, true, false, eqb, refl, sym, ap, ◌∙◌, append-nil, append_assoc, subst, arith, length-append}
+use Rattle.std.proofs.KnownBytes.{Appends-nil, Appends-trans}
 use Rattle.std.proofs.lemmas.Bool.Decides.{nat_tests}
 use Rattle.std.specs.Io.BufRead.{drop_through, take_through}
 use Rattle.std.specs.Io.KnownBytes.{Appends}
@@ -12,7 +13,6 @@ use Rattle.script.specs.Played.{Prints, lines_of, parsed_lines}
 use Rattle.script.specs.declared.error.PlayError.{PlayError}
 use Rattle.script.specs.declared.error.PlayError.TheVariants.{Input, Output, Memory, TooManyLines}
 use Rattle.script.specs.declared.line.Line.{Line}
-use Rattle.script.proofs.WritingProofs.{both, nothing}
 
 -- what the next line says
 abbrev pub next_parsed : List ℕ → Option Line
@@ -65,7 +65,7 @@ line_read (Some (b ∷ bs)) old items bytes count l empty some size reads same i
 -- a front of what stands behind a text that was written
 further : (P : List ℕ → Type 0) (old cur new : Option (List ℕ)) (front text whole : List ℕ) → whole ≡ front ++ text → Appends old cur front → AppendsFront P cur new text → AppendsFront P old new whole
 further P old cur new front text whole splits wrote part =
-    (front ++ part.0, part.1, splits ∙ (ap (λ t. front ++ t) part.2 ∙ sym (append_assoc front part.0 part.1)), part.3, both old cur new front part.0 wrote part.4)
+    (front ++ part.0, part.1, splits ∙ (ap (λ t. front ++ t) part.2 ∙ sym (append_assoc front part.0 part.1)), part.3, Appends-trans old cur new front part.0 wrote part.4)
 
 -- a front of a text is one of a longer text
 longer : (P Q : List ℕ → Type 0) (cur new : Option (List ℕ)) (text more : List ℕ) → ((rest : List ℕ) → P rest → Q (rest ++ more)) → AppendsFront P cur new text → AppendsFront Q cur new (text ++ more)
@@ -90,7 +90,7 @@ pub record Going (now old cur : Option (List ℕ)) (whole : List ℕ) (left : Li
 
 pub begins : (now old : Option (List ℕ)) (left : List ℕ → List ℕ) (read : ℕ) → IfSome now (λ rest. Going now old old (left rest) left (read + length (lines_of rest)) read)
 begins None old left read = tt
-begins (Some xs) old left read = record { rest = xs; known = refl; front = []; splits = refl; wrote = nothing old; counted = refl }
+begins (Some xs) old left read = record { rest = xs; known = refl; front = []; splits = refl; wrote = Appends-nil old; counted = refl }
 
 -- nothing is left
 all_played : (now old cur : Option (List ℕ)) (whole : List ℕ) (left : List ℕ → List ℕ) (lines read : ℕ) (next : Option Line) → Going now old cur whole left lines read → IfSome now (λ rest. next ≡ next_parsed rest) → next ≡ None → left [] ≡ [] → Appends old cur whole
@@ -124,7 +124,7 @@ one_line now after old cur new whole left left_after lines read text going next 
       known = next.dropped;
       front = going.front ++ text;
       splits = going.splits ∙ (ap (λ t. going.front ++ t) next.adds ∙ sym (append_assoc going.front text behind));
-      wrote = both old cur new going.front text going.wrote wrote;
+      wrote = Appends-trans old cur new going.front text going.wrote wrote;
       counted = omega (arith, going.counted, next.one_fewer);
     }
 
@@ -194,7 +194,7 @@ closes (Ok u) (Some first) now after old cur new whole left left_after lines rea
     let here = next_line now after left left_after going.rest next l [] going.known reads drops some step in
     let behind = left_after (drop_through 10 going.rest) in
     let wrote : Appends cur new behind = rw here.dropped at prints in
-    subst (λ t. Appends old new t) (sym (going.splits ∙ ap (λ t. going.front ++ t) here.adds)) (both old cur new going.front behind going.wrote wrote)
+    subst (λ t. Appends old new t) (sym (going.splits ∙ ap (λ t. going.front ++ t) here.adds)) (Appends-trans old cur new going.front behind going.wrote wrote)
 closes (Err e) (Some first) now after old cur new whole left left_after lines read next l going reads drops some prints step =
     let here = next_line now after left left_after going.rest next l [] going.known reads drops some step in
     let behind = left_after (drop_through 10 going.rest) in
@@ -211,7 +211,7 @@ pub line_then : (r : Result (Unit {0}) PlayError) (lines : ℕ) (now old cur new
 line_then (Ok u) lines None old cur new text left whole wrote prints step = tt
 line_then (Err e) lines None old cur new text left whole wrote prints step = tt
 line_then (Ok u) lines (Some rest) old cur new text left whole wrote prints step =
-    subst (λ t. Appends old new t) (sym (step rest)) (both old cur new text (left rest) wrote prints)
+    subst (λ t. Appends old new t) (sym (step rest)) (Appends-trans old cur new text (left rest) wrote prints)
 line_then (Err e) lines (Some rest) old cur new text left whole wrote prints step =
     further (LeavesUnplayed e (lines + length (lines_of rest))) old cur new text (left rest) (whole rest) (step rest) wrote prints
 

@@ -1,9 +1,9 @@
 -- Each line prints what the rules draw for it, the last leaves nothing, and an error leaves what it says.
 use Rattle.std.proofs.Common.{◌≡◌, ◌+◌, ◌∷◌, [], Some, Err, refl, ap, ◌∙◌, rules}
+use Rattle.std.proofs.KnownBytes.{Appends-nil}
 use Rattle.script.specs.Played.{played, printed, parsed_lines, bad_line}
 use Rattle.script.specs.declared.line.Line.TheVariants as line
 use Rattle.script.proofs.PlayProofs.{closes, ends, steps, unwritten}
-use Rattle.script.proofs.WritingProofs.{nothing}
 use Rattle.script.proofs.play.play.Goals as goal
 use Rattle.script.proofs.play.play.Goals.{in-Blank, in-Bad+in_ok-write_bad-in-Bad}
 
@@ -126,7 +126,7 @@ loop-lines-preserved g c =
           c.in_ok-line.ensures.line
           c.in_ok-line.ensures.rest
           (c.in-Some.is ∙ ap Some w.in-Blank.is)
-          (rw w.output-is (nothing (g.W.Write.contents c.loop-lines.output)))
+          (rw w.output-is (Appends-nil (g.W.Write.contents c.loop-lines.output)))
           (λ rest lines. ap (played number) lines)
       | in-Bad+in_ok-write_bad-in-Bad w ↦ steps
           (g.R.Read.remaining c.args.input.now)
