@@ -14,7 +14,7 @@ const MOST_BYTES: u64 = 65_536;
 
 // Reads the book on the input, of which the first 65,536 bytes count, and writes the text of its listing. Fails where the
 // input cannot be read, the output cannot be written, or there is no memory. Where the bytes of input and output are known,
-// as in memory, the output has gained that text; after an error nothing, or a front of it.
+// as in memory, the output has gained that text; after an error nothing, or a front of it that leaves some of it unwritten.
 #[tactic(auto, using(crate::proofs::Outputs::gains_none, crate::proofs::Outputs::gains_front, crate::proofs::Outputs::gains_listing))]
 pub fn list_book<R: Read + Drop, W: Write>(heap: Global, input: R, output: &mut W) -> io::Result<()>
     ensures lists { OnOk result (IfSome (R.Read.remaining input) (λ rest. GainsListing (take most_bytes rest) (W.contents output.old) (W.contents output.new))) }

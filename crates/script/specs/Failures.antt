@@ -1,5 +1,5 @@
 -- What was written of a text, and what an error says of the rest of it.
-use Rattle.std.specs.Prelude.{◌≡◌, ℕ, ◌-◌, ◌^◌, ◌<◌, ◌≤◌, List, ◌++◌, length, ⊤, Result, Ok, Err, Option}
+use Rattle.std.specs.Prelude.{ℕ, ◌-◌, ◌^◌, ◌<◌, ◌≤◌, List, length, ⊤, Result, Ok, Err, Option}
 use Rattle.std.specs.Io.KnownBytes.{Appends}
 use Rattle.book.specs.Outputs.{AppendsFront}
 use Rattle.script.specs.declared.error.PlayError.{PlayError}
