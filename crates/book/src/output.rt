@@ -70,7 +70,7 @@ pub fn write_whole<W: Write>(output: &mut W, bytes: &[u8]) -> io::Result<()>
 
 // Nothing says that an output ever takes a byte: it may interrupt each write.
 fn too_many_tries() -> io::Error {
-    io::Error::new(ErrorKind::TimedOut, "gave up after 2^64 writes")
+    io::Error::new(ErrorKind::TimedOut, "gave up after 2^64 - 1 writes")
 }
 
 // Writes once, and answers how many of the bytes were taken: none where the write was interrupted. It is an error where
