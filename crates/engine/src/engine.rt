@@ -45,7 +45,7 @@ impl<S: Store> Engine<S> {
     // An engine over a store, without chains, entries and notices. Over a new store, a trace begins here.
     pub fn new(store: S) -> Engine<S>
         ensures value { engine_of S.Reads.meaning result ≡ model.new_engine (S.Reads.meaning store) }
-        ensures begins { OverNewStore S.Store.depth (S.Reads.meaning store) (λ new. LedTo the_rules new [] (engine_of S.Reads.meaning result)) }
+        ensures begins { OverNewStore S.Store.DEPTH (S.Reads.meaning store) (λ new. LedTo the_rules new [] (engine_of S.Reads.meaning result)) }
     {
         Engine::empty(store)
     }
@@ -65,7 +65,7 @@ impl<S: Store> Engine<S> {
     // Opens a chain at a free place, with its leg 0 at a worker, and answers 0, that leg's number.
     // Refused: 1 place or worker out of range, 2 the place is not free.
     pub fn begin(&mut self, place: u8, worker: u8) -> Result<u8, EngineFault>
-        ensures step { IsStep S.Reads.meaning S.Store.depth (call.Begin place worker) self.old result self.new }
+        ensures step { IsStep S.Reads.meaning S.Store.DEPTH (call.Begin place worker) self.old result self.new }
         ensures reply { Replies (call.Begin place worker) result }
         ensures unchanged { OnErr result (self.new ≡ self.old) }
     {
@@ -82,7 +82,7 @@ impl<S: Store> Engine<S> {
     // Ends a leg and opens the next at a worker, with the same interval and write set; answers the new leg's number.
     // Refused: 1 place, leg or worker out of range, 3 that leg is not open, 5 sixteen legs have been opened.
     pub fn hand(&mut self, place: u8, leg: u8, worker: u8) -> Result<u8, EngineFault>
-        ensures step { IsStep S.Reads.meaning S.Store.depth (call.Hand place leg worker) self.old result self.new }
+        ensures step { IsStep S.Reads.meaning S.Store.DEPTH (call.Hand place leg worker) self.old result self.new }
         ensures reply { Replies (call.Hand place leg worker) result }
         ensures unchanged { OnErr result (self.new ≡ self.old) }
     {
@@ -104,7 +104,7 @@ impl<S: Store> Engine<S> {
         first_worker: u8,
         second_worker: u8,
     ) -> Result<(u8, u8), EngineFault>
-        ensures step { IsStep S.Reads.meaning S.Store.depth (call.Fork place leg first_worker second_worker) self.old result self.new }
+        ensures step { IsStep S.Reads.meaning S.Store.DEPTH (call.Fork place leg first_worker second_worker) self.old result self.new }
         ensures reply { Replies (call.Fork place leg first_worker second_worker) result }
         ensures unchanged { OnErr result (self.new ≡ self.old) }
     {
@@ -129,7 +129,7 @@ impl<S: Store> Engine<S> {
         second_leg: u8,
         worker: u8,
     ) -> Result<u8, EngineFault>
-        ensures step { IsStep S.Reads.meaning S.Store.depth (call.Join place first_leg second_leg worker) self.old result self.new }
+        ensures step { IsStep S.Reads.meaning S.Store.DEPTH (call.Join place first_leg second_leg worker) self.old result self.new }
         ensures reply { Replies (call.Join place first_leg second_leg worker) result }
         ensures unchanged { OnErr result (self.new ≡ self.old) }
     {
@@ -147,7 +147,7 @@ impl<S: Store> Engine<S> {
     // from the store. Refused: 1 place, leg or key out of range, 3 that leg is not open, 8 cache or store would be needed
     // for a 33rd reading, 15 the store has dropped the version.
     pub fn read(&mut self, place: u8, leg: u8, key: u8) -> Result<u32, EngineFault>
-        ensures step { IsStep S.Reads.meaning S.Store.depth (call.Read place leg key) self.old result self.new }
+        ensures step { IsStep S.Reads.meaning S.Store.DEPTH (call.Read place leg key) self.old result self.new }
         ensures reply { Replies (call.Read place leg key) result }
         ensures unchanged { OnErr result (self.new ≡ self.old) }
     {
@@ -162,7 +162,7 @@ impl<S: Store> Engine<S> {
     // Sets a key's value in the leg's write set.
     // Refused: 1 place, leg or key out of range, 3 that leg is not open, 7 the write set would pass eight keys.
     pub fn write(&mut self, place: u8, leg: u8, key: u8, value: u32) -> Result<(), EngineFault>
-        ensures step { IsStep S.Reads.meaning S.Store.depth (call.Write place leg key value) self.old result self.new }
+        ensures step { IsStep S.Reads.meaning S.Store.DEPTH (call.Write place leg key value) self.old result self.new }
         ensures reply { Replies (call.Write place leg key value) result }
         ensures unchanged { OnErr result (self.new ≡ self.old) }
     {
@@ -188,9 +188,9 @@ impl<S: Store> Engine<S> {
         readings: &mut [ChainReading],
         writes: &mut [Write],
     ) -> Result<AccountHead, EngineFault>
-        ensures step { IsCommit S.Reads.meaning S.Store.depth place leg clock (length readings.old) (length writes.old) self.old (readings.old, writes.old) result (readings.new, writes.new) self.new }
+        ensures step { IsCommit S.Reads.meaning S.Store.DEPTH place leg clock (length readings.old) (length writes.old) self.old (readings.old, writes.old) result (readings.new, writes.new) self.new }
         ensures reply { Replies (call.Commit place leg clock (length readings.old) (length writes.old)) (account_in result readings.new writes.new) }
-        ensures law { IfOk result (λ head. InEveryTrace S.Store.depth (engine_of S.Reads.meaning self.old) (λ store trace. AddsAccount store trace place leg clock (length readings.old) (length writes.old) (account_of head readings.new writes.new))) }
+        ensures law { IfOk result (λ head. InEveryTrace S.Store.DEPTH (engine_of S.Reads.meaning self.old) (λ store trace. AddsAccount store trace place leg clock (length readings.old) (length writes.old) (account_of head readings.new writes.new))) }
         ensures unchanged { OnErr result (self.new ≡ self.old) }
         ensures readings_unchanged { OnErr result (readings.new ≡ readings.old) }
         ensures writes_unchanged { OnErr result (writes.new ≡ writes.old) }
@@ -215,7 +215,7 @@ impl<S: Store> Engine<S> {
         requires no_key { named ≡ naming named.place named.leg not_named }
         requires readings_fit { min room.readings chain_readings ≤ length readings.old }
         requires writes_fit { min room.writes write_keys ≤ length writes.old }
-        ensures step { IsCommit S.Reads.meaning S.Store.depth named.place named.leg clock room.readings room.writes self.old (readings.old, writes.old) result (readings.new, writes.new) self.new }
+        ensures step { IsCommit S.Reads.meaning S.Store.DEPTH named.place named.leg clock room.readings room.writes self.old (readings.old, writes.old) result (readings.new, writes.new) self.new }
         ensures unchanged { OnErr result (self.new ≡ self.old) }
         ensures readings_unchanged { OnErr result (readings.new ≡ readings.old) }
         ensures writes_unchanged { OnErr result (writes.new ≡ writes.old) }
@@ -244,7 +244,7 @@ impl<S: Store> Engine<S> {
     // Frees a place. Refused: 1 place out of range, 3 no chain is open there.
     #[tactic(auto, using(std::proofs::lemmas::Bool::Decides::nat_tests, engine_parts::proofs::ItemLemmas::item_there), unfolding(engine_model::specs::Steps::check, engine_model::specs::Steps::with_chain))]
     pub fn abandon(&mut self, place: u8) -> Result<(), EngineFault>
-        ensures step { IsStep S.Reads.meaning S.Store.depth (call.Abandon place) self.old result self.new }
+        ensures step { IsStep S.Reads.meaning S.Store.DEPTH (call.Abandon place) self.old result self.new }
         ensures reply { Replies (call.Abandon place) result }
         ensures unchanged { OnErr result (self.new ≡ self.old) }
     {
@@ -263,7 +263,7 @@ impl<S: Store> Engine<S> {
     // Refused: 16 no notice waits at that position.
     #[tactic(auto, unfolding(engine_model::specs::Steps::or_else))]
     pub fn deliver(&mut self, position: u64) -> Result<(), EngineFault>
-        ensures step { IsStep S.Reads.meaning S.Store.depth (call.Deliver position) self.old result self.new }
+        ensures step { IsStep S.Reads.meaning S.Store.DEPTH (call.Deliver position) self.old result self.new }
         ensures reply { Replies (call.Deliver position) result }
         ensures unchanged { OnErr result (self.new ≡ self.old) }
     {
@@ -277,7 +277,7 @@ impl<S: Store> Engine<S> {
     // Removes a waiting notice, and later ones move up. Refused: 16 no notice waits at that position.
     #[tactic(auto, unfolding(engine_model::specs::Steps::or_else))]
     pub fn discard(&mut self, position: u64) -> Result<(), EngineFault>
-        ensures step { IsStep S.Reads.meaning S.Store.depth (call.Discard position) self.old result self.new }
+        ensures step { IsStep S.Reads.meaning S.Store.DEPTH (call.Discard position) self.old result self.new }
         ensures reply { Replies (call.Discard position) result }
         ensures unchanged { OnErr result (self.new ≡ self.old) }
     {
@@ -290,7 +290,7 @@ impl<S: Store> Engine<S> {
 
     // How many notices wait, and how many were lost.
     pub fn count(&self) -> (usize, u64)
-        ensures step { IsStep S.Reads.meaning S.Store.depth call.Count self.now (Ok result) self.now }
+        ensures step { IsStep S.Reads.meaning S.Store.DEPTH call.Count self.now (Ok result) self.now }
         ensures reply { Replies call.Count (Ok result) }
     {
         self.notices.count()
@@ -299,7 +299,7 @@ impl<S: Store> Engine<S> {
     // The store drops of each key the versions older than the newest one that is above neither the horizon nor the last
     // timestamp.
     pub fn prune(&mut self, horizon: u64)
-        ensures step { IsStep S.Reads.meaning S.Store.depth (call.Prune horizon) self.old (Ok tt) self.new }
+        ensures step { IsStep S.Reads.meaning S.Store.DEPTH (call.Prune horizon) self.old (Ok tt) self.new }
         ensures reply { Replies (call.Prune horizon) (Ok tt) }
     {
         self.store.prune(horizon);
@@ -315,7 +315,7 @@ fn give_to_store<S: Store>(
     clock: u64,
     writes: &[Write],
 ) -> Result<u64, Fault>
-    ensures made { (result, (S.Reads.meaning store.new, notices_of notices.new)) ≡ given_to_store S.Store.depth clock writes.now (caches_of caches.now) (S.Reads.meaning store.old, notices_of notices.old) }
+    ensures made { (result, (S.Reads.meaning store.new, notices_of notices.new)) ≡ given_to_store S.Store.DEPTH clock writes.now (caches_of caches.now) (S.Reads.meaning store.old, notices_of notices.old) }
     ensures store_unchanged { OnErr result (store.new ≡ store.old) }
     ensures notices_unchanged { OnErr result (notices.new ≡ notices.old) }
 {

@@ -21,17 +21,17 @@ impl<S: Store> Engine<S> {
     // the table has for the call. Every trace that led to the engine goes on by this call and its answer, and keeps the law of
     // traces.
     pub fn perform(&mut self, call: Call) -> Result<Answer, EngineFault>
-        ensures step { (result, engine_of S.Reads.meaning self.new) ≡ performed S.Store.depth call (engine_of S.Reads.meaning self.old) }
+        ensures step { (result, engine_of S.Reads.meaning self.new) ≡ performed S.Store.DEPTH call (engine_of S.Reads.meaning self.old) }
         ensures unchanged { OnErr result (self.new ≡ self.old) }
         ensures reply { CanReply call (result_reply result) }
-        ensures law { InEveryTrace S.Store.depth (engine_of S.Reads.meaning self.old) (λ store trace. ExtendsTrace store trace call result (engine_of S.Reads.meaning self.new)) }
+        ensures law { InEveryTrace S.Store.DEPTH (engine_of S.Reads.meaning self.old) (λ store trace. ExtendsTrace store trace call result (engine_of S.Reads.meaning self.new)) }
     {
         self.dispatch(call)
     }
 
     // Makes the call of that name.
     fn dispatch(&mut self, call: Call) -> Result<Answer, EngineFault>
-        ensures step { (result, engine_of S.Reads.meaning self.new) ≡ performed S.Store.depth call (engine_of S.Reads.meaning self.old) }
+        ensures step { (result, engine_of S.Reads.meaning self.new) ≡ performed S.Store.DEPTH call (engine_of S.Reads.meaning self.old) }
         ensures unchanged { OnErr result (self.new ≡ self.old) }
     {
         match call {
@@ -93,7 +93,7 @@ impl<S: Store> Engine<S> {
         readings_room: usize,
         writes_room: usize,
     ) -> Result<CommittedAccount, EngineFault>
-        ensures step { IsStep S.Reads.meaning S.Store.depth (call.Commit place leg clock readings_room writes_room) self.old result self.new }
+        ensures step { IsStep S.Reads.meaning S.Store.DEPTH (call.Commit place leg clock readings_room writes_room) self.old result self.new }
         ensures unchanged { OnErr result (self.new ≡ self.old) }
     {
         let mut readings = [NO_READING; CHAIN_READINGS];

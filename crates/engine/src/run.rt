@@ -21,10 +21,10 @@ pub fn run<S: Store>(
     calls: &[Call],
     answers: &mut Vec<Result<Answer, EngineFault>>,
 ) -> (Engine<S>, Result<(), AllocError>)
-    ensures answers { MatchResult result.1 (λ _. answers.new.items ≡ answers.old.items ++ answers_to S.Store.depth calls.now (new_engine (S.Reads.meaning store))) (λ _. answers.new.items ≡ answers.old.items) }
-    ensures after { MatchResult result.1 (λ _. engine_of S.Reads.meaning result.0 ≡ engine_after_calls S.Store.depth calls.now (new_engine (S.Reads.meaning store))) (λ _. engine_of S.Reads.meaning result.0 ≡ new_engine (S.Reads.meaning store)) }
+    ensures answers { MatchResult result.1 (λ _. answers.new.items ≡ answers.old.items ++ answers_to S.Store.DEPTH calls.now (new_engine (S.Reads.meaning store))) (λ _. answers.new.items ≡ answers.old.items) }
+    ensures after { MatchResult result.1 (λ _. engine_of S.Reads.meaning result.0 ≡ engine_after_calls S.Store.DEPTH calls.now (new_engine (S.Reads.meaning store))) (λ _. engine_of S.Reads.meaning result.0 ≡ new_engine (S.Reads.meaning store)) }
     ensures succeeds { vec_len answers.old + length calls.now ≤ vec_capacity answers.old → is_ok result.1 ≡ true }
-    ensures law { OnOk result.1 (RunKeepsLaw S.Store.depth calls.now (S.Reads.meaning store) (engine_of S.Reads.meaning result.0)) }
+    ensures law { OnOk result.1 (RunKeepsLaw S.Store.DEPTH calls.now (S.Reads.meaning store) (engine_of S.Reads.meaning result.0)) }
 {
     let mut engine = Engine::new(store);
     let done = perform_all(&mut engine, calls, answers);
@@ -37,8 +37,8 @@ fn perform_all<S: Store>(
     calls: &[Call],
     answers: &mut Vec<Result<Answer, EngineFault>>,
 ) -> Result<(), AllocError>
-    ensures answers { MatchResult result (λ _. answers.new.items ≡ answers.old.items ++ answers_to S.Store.depth calls.now (engine_of S.Reads.meaning engine.old)) (λ _. answers.new.items ≡ answers.old.items) }
-    ensures after { MatchResult result (λ _. engine_of S.Reads.meaning engine.new ≡ engine_after_calls S.Store.depth calls.now (engine_of S.Reads.meaning engine.old)) (λ _. engine.new ≡ engine.old) }
+    ensures answers { MatchResult result (λ _. answers.new.items ≡ answers.old.items ++ answers_to S.Store.DEPTH calls.now (engine_of S.Reads.meaning engine.old)) (λ _. answers.new.items ≡ answers.old.items) }
+    ensures after { MatchResult result (λ _. engine_of S.Reads.meaning engine.new ≡ engine_after_calls S.Store.DEPTH calls.now (engine_of S.Reads.meaning engine.old)) (λ _. engine.new ≡ engine.old) }
     ensures succeeds { vec_len answers.old + length calls.now ≤ vec_capacity answers.old → is_ok result ≡ true }
 {
     answers.reserve(calls.len())?;

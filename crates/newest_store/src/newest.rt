@@ -70,15 +70,24 @@ impl Reads for Newest {
 }
 
 impl Store for Newest {
-    ghost depth = { 1 };
+    ghost DEPTH = { 1 };
 
     ghost not_none = { lit≤ tt };
 
     const DEPTH: usize = 1;
 
-    fn most_versions() -> usize {
-        Self::DEPTH
-    }
+    // no memory is lent
+    ghost Memory = { Unit {0} };
+
+    ghost memory = { λ s. tt };
+
+    ghost Loan = { Unit {0} };
+
+    ghost loan = { λ s. tt };
+
+    ghost Holds = { λ l m h. Unit {0} };
+
+    ghost holds = { λ s. tt };
 
     fn commit(&mut self, clock: u64, writes: &[Write]) -> Result<u64, Fault> {
         let update = check_commit(clock, writes, self.last)?;

@@ -160,7 +160,7 @@ fn play_on<R: BufRead, W: Write, S: Store>(
     lines: u64,
     engine: &mut Engine<S>,
 ) -> Result<(), PlayError>
-    ensures { Prints result lines (R.Read.remaining input.old) (W.contents output.old) (W.contents output.new) (λ rest. played_on S.Store.depth (engine_of S.Reads.meaning engine.old) (lines + 1) (parsed_lines rest)) }
+    ensures { Prints result lines (R.Read.remaining input.old) (W.contents output.old) (W.contents output.new) (λ rest. played_on S.Store.DEPTH (engine_of S.Reads.meaning engine.old) (lines + 1) (parsed_lines rest)) }
 {
     for before in lines..u64::MAX {
         let Some(line) = next_line(input, buffer)? else {
@@ -179,8 +179,8 @@ fn play_line<W: Write, S: Store>(
     number: u64,
     line: Line,
 ) -> Result<(), PlayError>
-    ensures after { engine_of S.Reads.meaning engine.new ≡ after_line S.Store.depth (engine_of S.Reads.meaning engine.old) line }
-    ensures writes { Writes result (W.contents output.old) (W.contents output.new) (line_text S.Store.depth (engine_of S.Reads.meaning engine.old) number line) }
+    ensures after { engine_of S.Reads.meaning engine.new ≡ after_line S.Store.DEPTH (engine_of S.Reads.meaning engine.old) line }
+    ensures writes { Writes result (W.contents output.old) (W.contents output.new) (line_text S.Store.DEPTH (engine_of S.Reads.meaning engine.old) number line) }
 {
     match line {
         Line::Blank => Ok(()),
@@ -196,8 +196,8 @@ fn perform<W: Write, S: Store>(
     engine: &mut Engine<S>,
     request: Request,
 ) -> Result<(), PlayError>
-    ensures after { engine_of S.Reads.meaning engine.new ≡ (performed S.Store.depth request.call (engine_of S.Reads.meaning engine.old)).1 }
-    ensures writes { Writes result (W.contents output.old) (W.contents output.new) (result_line (request_text request) (shown_result (performed S.Store.depth request.call (engine_of S.Reads.meaning engine.old)).0)) }
+    ensures after { engine_of S.Reads.meaning engine.new ≡ (performed S.Store.DEPTH request.call (engine_of S.Reads.meaning engine.old)).1 }
+    ensures writes { Writes result (W.contents output.old) (W.contents output.new) (result_line (request_text request) (shown_result (performed S.Store.DEPTH request.call (engine_of S.Reads.meaning engine.old)).0)) }
 {
     let outcome = outcome(engine.perform(request.call));
     write_outcome(output, buffer, request, outcome)

@@ -28,8 +28,9 @@ pub enum StoreAnswer {
 
 // Performs one call.
 pub fn perform<S: Store>(store: &mut S, call: StoreCall) -> StoreAnswer
-    ensures answer { result ≡ answer_of S.Store.depth call.entry (S.Reads.meaning store.old) }
-    ensures after { S.Reads.meaning store.new ≡ after_store_call S.Store.depth call.entry (S.Reads.meaning store.old) }
+    ensures answer { result ≡ answer_of S.Store.DEPTH call.entry (S.Reads.meaning store.old) }
+    ensures after { S.Reads.meaning store.new ≡ after_store_call S.Store.DEPTH call.entry (S.Reads.meaning store.old) }
+    ensures loan { S.Store.loan store.new ≡ S.Store.loan store.old }
 {
     match call {
         StoreCall::Last => StoreAnswer::Last(store.last()),
@@ -49,10 +50,12 @@ pub fn run<S: Store>(
     calls: &[StoreCall],
     answers: &mut Vec<StoreAnswer>,
 ) -> Result<(), AllocError>
-    ensures answers { MatchResult result (λ _. answers.new.items ≡ answers.old.items ++ store_answers S.Store.depth calls.now (S.Reads.meaning store.old)) (λ _. answers.new.items ≡ answers.old.items) }
-    ensures after { MatchResult result (λ _. S.Reads.meaning store.new ≡ after_store_calls S.Store.depth calls.now (S.Reads.meaning store.old)) (λ _. store.new ≡ store.old) }
+    ensures answers { MatchResult result (λ _. answers.new.items ≡ answers.old.items ++ store_answers S.Store.DEPTH calls.now (S.Reads.meaning store.old)) (λ _. answers.new.items ≡ answers.old.items) }
+    ensures after { MatchResult result (λ _. S.Reads.meaning store.new ≡ after_store_calls S.Store.DEPTH calls.now (S.Reads.meaning store.old)) (λ _. store.new ≡ store.old) }
     ensures succeeds { vec_len answers.old + length calls.now ≤ vec_capacity answers.old → is_ok result ≡ true }
-    ensures laws { OnOk result (KeepsLaws S.Store.depth calls.now (S.Reads.meaning store.old) (S.Reads.meaning store.new)) }
+    ensures loan { S.Store.loan store.new ≡ S.Store.loan store.old }
+    ensures memory { OnOk result (S.Store.Holds (S.Store.loan store.old) (after_store_calls S.Store.DEPTH calls.now (S.Reads.meaning store.old)) (S.Store.memory store.new)) }
+    ensures laws { OnOk result (KeepsLaws S.Store.DEPTH calls.now (S.Reads.meaning store.old) (S.Reads.meaning store.new)) }
 {
     answers.reserve(calls.len())?;
     for call in calls {

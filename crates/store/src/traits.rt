@@ -27,26 +27,39 @@ pub trait Reads {
 // A store that can be written to, and pruned of old versions.
 pub trait Store: Reads {
     // the most versions that a store of this kind keeps of one key
-    ghost depth: { ℕ };
+    ghost DEPTH: { ℕ };
 
     // it is 1 or more
-    ghost not_none: { 1 ≤ depth };
+    ghost not_none: { 1 ≤ DEPTH };
 
     const DEPTH: usize;
 
-    // Answers `DEPTH`; the clause says that this is the depth. No body stands here, since Rattle gives a constant no clauses
-    // in an implementation with a lifetime.
-    fn most_versions() -> usize
-        ensures { result ≡ depth };
+    // what the memory that a caller lends to a store of this kind holds
+    ghost Memory: { Type 0 };
+
+    ghost memory: { Self → Memory };
+
+    // what no call changes of it: which memory was lent, and what is left alone of it
+    ghost Loan: { Type 0 };
+
+    ghost loan: { Self → Loan };
+
+    // what memory lent so holds while the store means this
+    ghost Holds: { Loan → Meaning → Memory → Type 0 };
 
     // Gives each written key a version at one new timestamp, and answers the timestamp. A refused commit leaves the
     // store's very value as it was.
     fn commit(&mut self, clock: u64, writes: &[Write]) -> Result<u64, Fault>
-        ensures answer { result ≡ commit_answer depth clock writes.now (Self.Reads.meaning self.old) }
-        ensures after { Self.Reads.meaning self.new ≡ after_commit depth clock writes.now (Self.Reads.meaning self.old) }
+        ensures answer { result ≡ commit_answer DEPTH clock writes.now (Self.Reads.meaning self.old) }
+        ensures after { Self.Reads.meaning self.new ≡ after_commit DEPTH clock writes.now (Self.Reads.meaning self.old) }
+        ensures loan { loan self.new ≡ loan self.old }
         ensures unchanged { OnErr result (self.new ≡ self.old) };
 
     // Drops of each key the versions older than the newest one that is above neither the horizon nor last.
     fn prune(&mut self, horizon: u64)
-        ensures after { Self.Reads.meaning self.new ≡ after_prune horizon (Self.Reads.meaning self.old) };
+        ensures after { Self.Reads.meaning self.new ≡ after_prune horizon (Self.Reads.meaning self.old) }
+        ensures loan { loan self.new ≡ loan self.old };
+
+    // and so it does at all times
+    ghost holds: { (s : Self) → Holds (loan s) (Self.Reads.meaning s) (memory s) };
 }

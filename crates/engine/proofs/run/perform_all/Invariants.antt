@@ -6,7 +6,7 @@ use Rattle.engine.proofs.run.perform_all.Given as goal
 
 abbrev pub invariant-loop-call : goal.invariant-loop-call
 invariant-loop-call g l =
-    let depth = g.S.Store.depth in
+    let depth = g.S.Store.DEPTH in
     let m = g.S.Reads.meaning in
     let before = engine_of m l.initial.engine in
     let here = engine_of m l.engine in

@@ -6,7 +6,7 @@ use Rattle.engine.proofs.run.run.Goals as goal
 
 pub returns-clause-law : goal.returns-clause-law
 returns-clause-law g c =
-    let depth = g.S.Store.depth in
+    let depth = g.S.Store.DEPTH in
     let calls = c.args.calls.now in
     MatchResult-weaker c.perform_all-done.result c.perform_all-done.ensures.after
     (λ _ is. run_keeps_law depth calls (g.S.Reads.meaning c.args.store) _ (is ∙ ap (engine_after_calls depth calls) c.new-engine.ensures.value))

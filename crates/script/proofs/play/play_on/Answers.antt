@@ -13,8 +13,8 @@ returns-in_default g c =
     (g.R.Read.remaining c.loop-before.input)
     (g.W.Write.contents c.args.output.now)
     (g.W.Write.contents c.loop-before.output)
-    (λ first. played_on g.S.Store.depth (engine_of g.S.Reads.meaning c.args.engine.now) (c.args.lines + 1) (parsed_lines first))
-    (λ rest. played_on g.S.Store.depth (engine_of g.S.Reads.meaning c.loop-before.engine) (c.loop-before.before + 1) (parsed_lines rest))
+    (λ first. played_on g.S.Store.DEPTH (engine_of g.S.Reads.meaning c.args.engine.now) (c.args.lines + 1) (parsed_lines first))
+    (λ rest. played_on g.S.Store.DEPTH (engine_of g.S.Reads.meaning c.loop-before.engine) (c.loop-before.before + 1) (parsed_lines rest))
     c.args.lines
     c.loop-before.before
     c.in_ok-line.field-0
@@ -33,8 +33,8 @@ returns-in_err-line g c =
     (g.R.Read.remaining c.loop-before.input)
     (g.W.Write.contents c.args.output.now)
     (g.W.Write.contents c.loop-before.output)
-    (λ first. played_on g.S.Store.depth (engine_of g.S.Reads.meaning c.args.engine.now) (c.args.lines + 1) (parsed_lines first))
-    (λ rest. played_on g.S.Store.depth (engine_of g.S.Reads.meaning c.loop-before.engine) (c.loop-before.before + 1) (parsed_lines rest))
+    (λ first. played_on g.S.Store.DEPTH (engine_of g.S.Reads.meaning c.args.engine.now) (c.args.lines + 1) (parsed_lines first))
+    (λ rest. played_on g.S.Store.DEPTH (engine_of g.S.Reads.meaning c.loop-before.engine) (c.loop-before.before + 1) (parsed_lines rest))
     c.args.lines
     c.loop-before.before
     failed
@@ -55,14 +55,14 @@ returns-in_err-play_line g c =
     (g.W.Write.contents c.args.output.now)
     (g.W.Write.contents c.loop-before.output)
     (g.W.Write.contents c.play_line.new.output)
-    (λ first. played_on g.S.Store.depth (engine_of g.S.Reads.meaning c.args.engine.now) (c.args.lines + 1) (parsed_lines first))
-    (λ rest. played_on g.S.Store.depth engine (before + 1) (parsed_lines rest))
-    (λ rest. played_on g.S.Store.depth (engine_of g.S.Reads.meaning c.play_line.new.engine) (before + 1 + 1) (parsed_lines rest))
+    (λ first. played_on g.S.Store.DEPTH (engine_of g.S.Reads.meaning c.args.engine.now) (c.args.lines + 1) (parsed_lines first))
+    (λ rest. played_on g.S.Store.DEPTH engine (before + 1) (parsed_lines rest))
+    (λ rest. played_on g.S.Store.DEPTH (engine_of g.S.Reads.meaning c.play_line.new.engine) (before + 1 + 1) (parsed_lines rest))
     c.args.lines
     before
     c.in_ok-line.field-0
     c.in-Some.line
-    (line_text g.S.Store.depth engine (before + 1) c.in-Some.line)
+    (line_text g.S.Store.DEPTH engine (before + 1) c.in-Some.line)
     failed
     c.loop-before.invariant
     c.in_ok-line.ensures.line
@@ -70,9 +70,9 @@ returns-in_err-play_line g c =
     c.in-Some.is
     c.in_err-play_line.ensures.writes
     (λ rest lines.
-    ap (played_on g.S.Store.depth engine (before + 1)) lines
+    ap (played_on g.S.Store.DEPTH engine (before + 1)) lines
     ∙ ap
-    (λ after. line_text g.S.Store.depth engine (before + 1) c.in-Some.line ++ played_on g.S.Store.depth after (before + 1 + 1) (parsed_lines (drop_through 10 rest)))
+    (λ after. line_text g.S.Store.DEPTH engine (before + 1) c.in-Some.line ++ played_on g.S.Store.DEPTH after (before + 1 + 1) (parsed_lines (drop_through 10 rest)))
     (sym c.play_line.ensures.after))
 
 pub loop-before-preserved : goal.loop-before-preserved
@@ -86,21 +86,21 @@ loop-before-preserved g c =
     (g.W.Write.contents c.args.output.now)
     (g.W.Write.contents c.loop-before.output)
     (g.W.Write.contents c.play_line.new.output)
-    (λ first. played_on g.S.Store.depth (engine_of g.S.Reads.meaning c.args.engine.now) (c.args.lines + 1) (parsed_lines first))
-    (λ rest. played_on g.S.Store.depth engine (before + 1) (parsed_lines rest))
-    (λ rest. played_on g.S.Store.depth (engine_of g.S.Reads.meaning c.play_line.new.engine) (before + 1 + 1) (parsed_lines rest))
+    (λ first. played_on g.S.Store.DEPTH (engine_of g.S.Reads.meaning c.args.engine.now) (c.args.lines + 1) (parsed_lines first))
+    (λ rest. played_on g.S.Store.DEPTH engine (before + 1) (parsed_lines rest))
+    (λ rest. played_on g.S.Store.DEPTH (engine_of g.S.Reads.meaning c.play_line.new.engine) (before + 1 + 1) (parsed_lines rest))
     c.args.lines
     before
     c.in_ok-line.field-0
     c.in-Some.line
-    (line_text g.S.Store.depth engine (before + 1) c.in-Some.line)
+    (line_text g.S.Store.DEPTH engine (before + 1) c.in-Some.line)
     c.loop-before.invariant
     c.in_ok-line.ensures.line
     c.in_ok-line.ensures.rest
     c.in-Some.is
     c.in_ok-play_line.ensures.writes
     (λ rest lines.
-    ap (played_on g.S.Store.depth engine (before + 1)) lines
+    ap (played_on g.S.Store.DEPTH engine (before + 1)) lines
     ∙ ap
-    (λ after. line_text g.S.Store.depth engine (before + 1) c.in-Some.line ++ played_on g.S.Store.depth after (before + 1 + 1) (parsed_lines (drop_through 10 rest)))
+    (λ after. line_text g.S.Store.DEPTH engine (before + 1) c.in-Some.line ++ played_on g.S.Store.DEPTH after (before + 1 + 1) (parsed_lines (drop_through 10 rest)))
     (sym c.play_line.ensures.after))

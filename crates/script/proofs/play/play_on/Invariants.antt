@@ -12,7 +12,7 @@ invariant-loop-before g l =
     (g.R.Read.remaining l.input)
     (g.W.Write.contents l.initial.output)
     (g.W.Write.contents l.output)
-    (λ first. played_on g.S.Store.depth (engine_of g.S.Reads.meaning l.initial.engine) (l.lines + 1) (parsed_lines first))
-    (λ rest. played_on g.S.Store.depth (engine_of g.S.Reads.meaning l.engine) (l.before + 1) (parsed_lines rest))
+    (λ first. played_on g.S.Store.DEPTH (engine_of g.S.Reads.meaning l.initial.engine) (l.lines + 1) (parsed_lines first))
+    (λ rest. played_on g.S.Store.DEPTH (engine_of g.S.Reads.meaning l.engine) (l.before + 1) (parsed_lines rest))
     l.lines
     l.before

@@ -16,4 +16,4 @@ returns-in-Some-clause-step g c =
     let within : p < length e.places = grind (arith, nat_tests) in
     let there = stands g.S.Reads.meaning e p within (Some c.in-Some.field-0) c.in-Some.is in
     left_after _ _ _ _ (place_set g.S.Reads.meaning e p within None)
-    (abandon_is_step g.S.Store.depth p s (chain_of c.in-Some.field-0) place there)
+    (abandon_is_step g.S.Store.DEPTH p s (chain_of c.in-Some.field-0) place there)

@@ -37,7 +37,7 @@ returns-then-is_some-clause-step g c =
     let there = stands g.S.Reads.meaning e p within (Some taken.0) taken.1 in
     answered s (Err _) (Err _) _
     (ap Err (c.refused.ensures ∙ ap (λ n. chain_fault n.place n.leg n.key PlaceOccupied) c.place-named.ensures))
-    (begin_is_refused g.S.Store.depth p c.args.worker s (chain_of taken.0) range there)
+    (begin_is_refused g.S.Store.DEPTH p c.args.worker s (chain_of taken.0) range there)
 
 pub returns-clause-step : goal.returns-clause-step
 returns-clause-step g c =
@@ -52,4 +52,4 @@ returns-clause-step g c =
     let there = stands g.S.Reads.meaning e p within None free in
     let opened = c.new.ensures ∙ ap model.new_chain worker.1 in
     left_after _ _ _ _ (place_set g.S.Reads.meaning e p within (Some c.new.result) ∙ ap (λ x. model.with_place p (Some x) s) opened)
-    (begin_is_step g.S.Store.depth p c.args.worker s range there)
+    (begin_is_step g.S.Store.DEPTH p c.args.worker s range there)

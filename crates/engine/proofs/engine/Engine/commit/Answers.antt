@@ -8,7 +8,7 @@ returns-clause-step g c =
     let rs = c.args.readings.now in
     let ws = c.args.writes.now in
     subst
-    (λ n. IsStepped g.S.Store.depth n.place n.leg c.args.clock (length rs) (length ws) rs ws (engine_of g.S.Reads.meaning c.args.self.now)
+    (λ n. IsStepped g.S.Store.DEPTH n.place n.leg c.args.clock (length rs) (length ws) rs ws (engine_of g.S.Reads.meaning c.args.self.now)
     c.commit_into.result (c.commit_into.new.readings, c.commit_into.new.writes) (engine_of g.S.Reads.meaning c.commit_into.new.self))
     c.leg.ensures c.commit_into.ensures.step
 
@@ -16,12 +16,12 @@ pub returns-clause-reply : goal.returns-clause-reply
 returns-clause-reply g c =
     let rs = c.args.readings.now in
     let ws = c.args.writes.now in
-    commit_replies g.S.Store.depth c.args.place c.args.leg c.args.clock (length rs) (length ws) rs ws
+    commit_replies g.S.Store.DEPTH c.args.place c.args.leg c.args.clock (length rs) (length ws) rs ws
     (engine_of g.S.Reads.meaning c.args.self.now) _ _ _ (returns-clause-step g c)
 
 pub returns-clause-law : goal.returns-clause-law
 returns-clause-law g c =
     let rs = c.args.readings.now in
     let ws = c.args.writes.now in
-    commit_law g.S.Store.depth c.args.place c.args.leg c.args.clock (length rs) (length ws) rs ws
+    commit_law g.S.Store.DEPTH c.args.place c.args.leg c.args.clock (length rs) (length ws) rs ws
     (engine_of g.S.Reads.meaning c.args.self.now) _ _ _ (returns-clause-step g c)

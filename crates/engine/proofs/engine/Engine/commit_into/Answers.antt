@@ -19,7 +19,7 @@ returns-in_err-check_leg-clause-step g c =
     let s = engine_of g.S.Reads.meaning c.args.self.now in
     let out = failed leg_in_range _ _ _ _ c.requires.no_key c.check_leg.ensures c.in_err-check_leg.was in
     let exit = err_from_is_err_and c.from_residual.result c.from_residual.ensures.1 in
-    commit_refused g.S.Store.depth c.args.named.place c.args.named.leg c.args.clock c.args.room.readings c.args.room.writes
+    commit_refused g.S.Store.DEPTH c.args.named.place c.args.named.leg c.args.clock c.args.room.readings c.args.room.writes
     c.args.readings.now c.args.writes.now s s s _ _ _ refl exit.1 exit.2 (refused_out s _ (Err _) _ _ _ refl out.1 (grind (arith, nat_tests)))
 
 pub returns-in_default-clause-step : goal.returns-in_default-clause-step
@@ -28,7 +28,7 @@ returns-in_default-clause-step g c =
     let p = c.args.named.place in
     let leg = passed leg_in_range _ _ _ _ c.requires.no_key c.check_leg.ensures c.in_ok-check_leg.was in
     let within : p < length e.places = grind (arith, nat_tests) in
-    commit_refused g.S.Store.depth p c.args.named.leg c.args.clock c.args.room.readings c.args.room.writes c.args.readings.now
+    commit_refused g.S.Store.DEPTH p c.args.named.leg c.args.clock c.args.room.readings c.args.room.writes c.args.readings.now
     c.args.writes.now (engine_of g.S.Reads.meaning e) _ _ _ _ _ refl refl refl
     (refused_missing g.S.Reads.meaning e p within _ _ _ _ _ _
     (c.refused.ensures ∙ ap (λ n. chain_fault n.place n.leg n.key NotOpen) c.requires.no_key) (grind (arith, nat_tests)) c.in_default.is)
@@ -38,7 +38,7 @@ returns-in_err-leg-clause-step g c =
     let e = c.args.self.now in
     let n = c.args.named in
     let m = g.S.Reads.meaning in
-    let depth = g.S.Store.depth in
+    let depth = g.S.Store.DEPTH in
     let range = passed leg_in_range n n _ _ refl c.check_leg.ensures c.in_ok-check_leg.was in
     let within : n.place < length e.places = grind (arith, nat_tests) in
     let exit = err_from_is_err_and c.from_residual-in_err-leg.result c.from_residual-in_err-leg.ensures.1 in
@@ -62,7 +62,7 @@ returns-in-Ok-clause-step g c =
     let e = c.args.self.now in
     let n = c.args.named in
     let m = g.S.Reads.meaning in
-    let depth = g.S.Store.depth in
+    let depth = g.S.Store.DEPTH in
     let range = passed leg_in_range n n _ _ refl c.check_leg.ensures c.in_ok-check_leg.was in
     let within : n.place < length e.places = grind (arith, nat_tests) in
     commit_accepted depth n.place n.leg c.args.clock c.args.room.readings c.args.room.writes c.args.readings.now c.args.writes.now
@@ -76,7 +76,7 @@ returns-in-Err-clause-step g c =
     let e = c.args.self.now in
     let n = c.args.named in
     let m = g.S.Reads.meaning in
-    let depth = g.S.Store.depth in
+    let depth = g.S.Store.DEPTH in
     let range = passed leg_in_range n n _ _ refl c.check_leg.ensures c.in_ok-check_leg.was in
     let within : n.place < length e.places = grind (arith, nat_tests) in
     let same = λ (places : List (Option Chain)).

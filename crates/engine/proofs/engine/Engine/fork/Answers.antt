@@ -61,7 +61,7 @@ returns-clause-step g c =
     let within : p < length e.places = grind (arith, nat_tests) in
     let there = stands g.S.Reads.meaning e p within (Some chain) c.in-Some.is in
     called g.S.Reads.meaning e p within c.fork.result c.fork.new.self _ _
-    (fork_is_step g.S.Store.depth p l c.args.first_worker c.args.second_worker (engine_of g.S.Reads.meaning e) (chain_of chain) range there)
+    (fork_is_step g.S.Store.DEPTH p l c.args.first_worker c.args.second_worker (engine_of g.S.Reads.meaning e) (chain_of chain) range there)
     (c.fork.ensures.made
     ∙ ap (λ k. after_fork k w v (chain_of chain)) c.leg-named.ensures
     ∙ ap (λ x. after_fork n x v (chain_of chain)) first.1
@@ -69,5 +69,5 @@ returns-clause-step g c =
 
 pub returns-clause-reply : goal.returns-clause-reply
 returns-clause-reply g c =
-    step_replies g.S.Store.depth (call.Fork c.args.place c.args.leg c.args.first_worker c.args.second_worker) (engine_of g.S.Reads.meaning c.args.self.now) _ _
+    step_replies g.S.Store.DEPTH (call.Fork c.args.place c.args.leg c.args.first_worker c.args.second_worker) (engine_of g.S.Reads.meaning c.args.self.now) _ _
     (returns-clause-step g c)

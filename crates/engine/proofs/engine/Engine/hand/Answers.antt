@@ -52,12 +52,12 @@ returns-clause-step g c =
     let within : p < length e.places = grind (arith, nat_tests) in
     let there = stands g.S.Reads.meaning e p within (Some chain) c.in-Some.is in
     called g.S.Reads.meaning e p within c.hand.result c.hand.new.self _ _
-    (hand_is_step g.S.Store.depth p l c.args.worker (engine_of g.S.Reads.meaning e) (chain_of chain) range there)
+    (hand_is_step g.S.Store.DEPTH p l c.args.worker (engine_of g.S.Reads.meaning e) (chain_of chain) range there)
     (c.hand.ensures.made
     ∙ ap (λ k. after_hand k w (chain_of chain)) c.leg-named.ensures
     ∙ ap (λ v. after_hand n v (chain_of chain)) worker.1)
 
 pub returns-clause-reply : goal.returns-clause-reply
 returns-clause-reply g c =
-    step_replies g.S.Store.depth (call.Hand c.args.place c.args.leg c.args.worker) (engine_of g.S.Reads.meaning c.args.self.now) _ _
+    step_replies g.S.Store.DEPTH (call.Hand c.args.place c.args.leg c.args.worker) (engine_of g.S.Reads.meaning c.args.self.now) _ _
     (returns-clause-step g c)

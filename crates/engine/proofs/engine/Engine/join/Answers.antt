@@ -61,12 +61,12 @@ returns-clause-step g c =
     let within : p < length e.places = grind (arith, nat_tests) in
     let there = stands g.S.Reads.meaning e p within (Some chain) c.in-Some.is in
     called g.S.Reads.meaning e p within c.join.result c.join.new.self _ _
-    (join_is_step g.S.Store.depth p l j c.args.worker (engine_of g.S.Reads.meaning e) (chain_of chain) range there)
+    (join_is_step g.S.Store.DEPTH p l j c.args.worker (engine_of g.S.Reads.meaning e) (chain_of chain) range there)
     (c.join.ensures.made
     ∙ ap (λ k. after_join k j w (chain_of chain)) c.leg-named.ensures
     ∙ ap (λ x. after_join n j x (chain_of chain)) worker.1)
 
 pub returns-clause-reply : goal.returns-clause-reply
 returns-clause-reply g c =
-    step_replies g.S.Store.depth (call.Join c.args.place c.args.first_leg c.args.second_leg c.args.worker) (engine_of g.S.Reads.meaning c.args.self.now) _ _
+    step_replies g.S.Store.DEPTH (call.Join c.args.place c.args.first_leg c.args.second_leg c.args.worker) (engine_of g.S.Reads.meaning c.args.self.now) _ _
     (returns-clause-step g c)

@@ -2,4 +2,4 @@ use Rattle.engine.proofs.TraceLemmas.{begins}
 use Rattle.engine.proofs.engine.Engine.new.Goals as goal
 
 pub returns-clause-begins : goal.returns-clause-begins
-returns-clause-begins g c = begins g.S.Store.depth (g.S.Reads.meaning c.args.store) _ c.empty.ensures
+returns-clause-begins g c = begins g.S.Store.DEPTH (g.S.Reads.meaning c.args.store) _ c.empty.ensures

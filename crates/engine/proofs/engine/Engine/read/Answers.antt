@@ -37,10 +37,10 @@ returns-clause-step g c =
     let within : p < length e.places = grind (arith, nat_tests) in
     let there = stands g.S.Reads.meaning e p within (Some chain) c.in-Some.is in
     read_called g.S.Reads.meaning e p within c.read.result c.read.new.self c.read.new.caches _
-    (read_is_step g.S.Store.depth p c.args.leg c.args.key (engine_of g.S.Reads.meaning e) (chain_of chain) range there
+    (read_is_step g.S.Store.DEPTH p c.args.leg c.args.key (engine_of g.S.Reads.meaning e) (chain_of chain) range there
     _ _ _ c.read.ensures.made)
 
 pub returns-clause-reply : goal.returns-clause-reply
 returns-clause-reply g c =
-    step_replies g.S.Store.depth (call.Read c.args.place c.args.leg c.args.key) (engine_of g.S.Reads.meaning c.args.self.now) _ _
+    step_replies g.S.Store.DEPTH (call.Read c.args.place c.args.leg c.args.key) (engine_of g.S.Reads.meaning c.args.self.now) _ _
     (returns-clause-step g c)

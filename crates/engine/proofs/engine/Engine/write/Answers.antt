@@ -37,10 +37,10 @@ returns-clause-step g c =
     let within : p < length e.places = grind (arith, nat_tests) in
     let there = stands g.S.Reads.meaning e p within (Some chain) c.in-Some.is in
     called g.S.Reads.meaning e p within c.write.result c.write.new.self _ _
-    (write_is_step g.S.Store.depth p c.args.leg c.args.key c.args.value (engine_of g.S.Reads.meaning e) (chain_of chain) range there)
+    (write_is_step g.S.Store.DEPTH p c.args.leg c.args.key c.args.value (engine_of g.S.Reads.meaning e) (chain_of chain) range there)
     c.write.ensures.made
 
 pub returns-clause-reply : goal.returns-clause-reply
 returns-clause-reply g c =
-    step_replies g.S.Store.depth (call.Write c.args.place c.args.leg c.args.key c.args.value) (engine_of g.S.Reads.meaning c.args.self.now) _ _
+    step_replies g.S.Store.DEPTH (call.Write c.args.place c.args.leg c.args.key c.args.value) (engine_of g.S.Reads.meaning c.args.self.now) _ _
     (returns-clause-step g c)
