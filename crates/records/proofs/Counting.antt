@@ -9,12 +9,12 @@ use Rattle.snapshot.specs.Limits.{is_key}
 use Rattle.snapshot.specs.declared.account.Write.{Write}
 use Rattle.store.specs.Meaning.{outdated, written_to}
 use Rattle.store.specs.declared.version.Version.{Version}
-use Rattle.table_store.proofs.Keys.{of_key_more_yes, of_key_more_no}
-use Rattle.table_store.proofs.Pushes.{outdated_push}
-use Rattle.table_store.specs.PerKeys.{number_for, per_key, with}
-use Rattle.table_store.specs.Records.{has_key, record_version, of_key, excess, no_record}
-use Rattle.table_store.specs.declared.per_key.PerKey.{PerKey}
-use Rattle.table_store.specs.declared.record.Record.{Record}
+use Rattle.records.proofs.Keys.{of_key_more_yes, of_key_more_no}
+use Rattle.records.proofs.Pushes.{outdated_push}
+use Rattle.records.specs.PerKeys.{number_for, per_key, with}
+use Rattle.records.specs.Records.{has_key, record_version, of_key, excess, no_record}
+use Rattle.records.specs.declared.per_key.PerKey.{PerKey}
+use Rattle.records.specs.declared.record.Record.{Record}
 
 -- the numbers are those of f
 abbrev pub Numbers : PerKey → (ℕ → ℕ) → Type 0

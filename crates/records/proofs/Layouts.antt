@@ -13,11 +13,11 @@ use Rattle.store.specs.Laws.{versions_of}
 use Rattle.store.specs.Meaning.{version_of, outdated, written_to, kept_with, versions_below}
 use Rattle.store.specs.declared.version.Version.{Version}
 use Rattle.store.proofs.Writes.{rising_later, rising_keys, unwritten_below, unwritten_past}
-use Rattle.table_store.proofs.Keys.{of_key_append}
-use Rattle.table_store.specs.PerKeys.{one_less, per_key}
-use Rattle.table_store.specs.Records.{after_writes, drop_firsts, excess, first_records, has_key, of_key, record_of, record_version, without_outdated, written}
-use Rattle.table_store.specs.Tables.{in_order, is_before, sound_record}
-use Rattle.table_store.specs.declared.record.Record.{Record}
+use Rattle.records.proofs.Keys.{of_key_append}
+use Rattle.records.specs.PerKeys.{one_less, per_key}
+use Rattle.records.specs.Records.{after_writes, drop_firsts, excess, first_records, has_key, of_key, record_of, record_version, without_outdated, written}
+use Rattle.records.specs.Layouts.{in_order, is_before, sound_record}
+use Rattle.records.specs.declared.record.Record.{Record}
 
 -- Tests of every record.
 

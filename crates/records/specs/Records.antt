@@ -1,12 +1,12 @@
 -- Lists of records, oldest first: the versions that they hold of each key, and what is left when each key drops some.
-use Rattle.std.specs.Prelude.{ℕ, zero, suc, ◌-◌, Bool, if◌then◌else◌, List, [], ◌∷◌, ◌++◌, map, length, take, Some, None, Ok, Err, fold, filter, Option, Result, ◌==◌, nat_lt, nat_le}
+use Rattle.std.specs.Prelude.{ℕ, zero, suc, ◌-◌, Bool, if◌then◌else◌, List, [], ◌∷◌, ◌++◌, map, length, Some, None, Ok, Err, filter, Option, Result, ◌==◌, nat_lt, nat_le}
 use Rattle.snapshot.specs.declared.fault.Fault.{Fault}
 use Rattle.snapshot.specs.declared.fault.Refusal.TheVariants.{CapacityExceeded}
 use Rattle.snapshot.specs.declared.account.Write.{Write}
 use Rattle.store.specs.Meaning.{version_of, outdated, store_fault, written_to}
 use Rattle.store.specs.declared.version.Version.{Version}
-use Rattle.table_store.specs.PerKeys.{one_less, per_key}
-use Rattle.table_store.specs.declared.record.Record.{Record}
+use Rattle.records.specs.PerKeys.{one_less, per_key}
+use Rattle.records.specs.declared.record.Record.{Record}
 
 abbrev pub record_of : ℕ → ℕ → ℕ → Record
 record_of k t x = record { key = k; timestamp = t; value = x }
@@ -17,24 +17,6 @@ no_record = record_of 0 0 0
 -- the record of a write at a timestamp
 abbrev pub written : ℕ → Write → Record
 written t w = record_of w.key t w.value
-
--- Lists in memory.
-
--- the records of a list, and how many its memory has room for
-pub record RecordsHeld : Type 0 where
-  pub records : List Record
-  pub room : ℕ
-
-abbrev pub with_records : List Record → RecordsHeld → RecordsHeld
-with_records rs l = record { records = rs; room = l.room }
-
--- one record more, where there is room for it
-abbrev pub with_one_more : RecordsHeld → Record → RecordsHeld
-with_one_more l r = with_records (take l.room (l.records ++ (r ∷ []))) l
-
--- these records more, as far as there is room
-abbrev pub with_all : List Record → RecordsHeld → RecordsHeld
-with_all rs l = fold with_one_more l rs
 
 -- What each key has, and what it drops.
 

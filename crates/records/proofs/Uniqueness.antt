@@ -1,14 +1,14 @@
 -- Records that hold the same versions of each key in the same order are the same: a meaning is laid out in one way only.
-use Rattle.std.proofs.Common.{◌≡◌, ℕ, ◌-◌, Bool, true, false, List, [], ◌∷◌, ◌++◌, length, replicate, sym, refl, ap, ◌∙◌, subst, ⊎_elim, arith}
+use Rattle.std.proofs.Common.{◌≡◌, ℕ, Bool, true, false, List, [], ◌∷◌, sym, refl, ap, ◌∙◌, subst, ⊎_elim, arith}
 use Rattle.std.specs.List.{list_all}
 use Rattle.std.proofs.lemmas.Bool.{and_parts, cases_Bool, eqb-true, eq-eqb}
 use Rattle.std.proofs.lemmas.Bool.Decides.{nat_tests}
 use Rattle.store.specs.Meaning.{Meaning}
 use Rattle.store.specs.declared.version.Version.{Version}
-use Rattle.table_store.proofs.Layouts.{cons_yes, cons_no}
-use Rattle.table_store.specs.Records.{has_key, no_record, of_key, record_of, record_version}
-use Rattle.table_store.specs.Tables.{LaidOut, in_order, is_before}
-use Rattle.table_store.specs.declared.record.Record.{Record}
+use Rattle.records.proofs.Layouts.{cons_yes, cons_no}
+use Rattle.records.specs.Records.{has_key, of_key, record_of, record_version}
+use Rattle.records.specs.Layouts.{ListsVersions, in_order, is_before}
+use Rattle.records.specs.declared.record.Record.{Record}
 
 itself : (r : Record) → has_key r.key r ≡ true
 itself r = eq-eqb r.key r.key refl
@@ -65,10 +65,5 @@ same_records (x ∷ xs) (y ∷ ys) ox oy same =
     let rest = same_records xs ys (and_parts (list_all (is_before x) xs) (in_order xs) ox).1 (and_parts (list_all (is_before y) ys) (in_order ys) oy).1 (same_rest x y xs ys first same) in
     λ i. first i ∷ rest i
 
-pub one_layout : (m : Meaning) (mem other : List Record) → length other ≡ length mem → LaidOut m mem → LaidOut m other → other ≡ mem
-one_layout m mem other long here there =
-    let front = same_records there.front here.front there.ordered here.ordered (λ k. there.versions k ∙ sym (here.versions k)) in
-    there.whole
-    ∙ ap (λ xs. xs ++ replicate (length other - length xs) no_record) front
-    ∙ ap (λ n. here.front ++ replicate (n - length here.front) no_record) long
-    ∙ sym here.whole
+pub one_list : (m : Meaning) (xs ys : List Record) → ListsVersions m xs → ListsVersions m ys → ys ≡ xs
+one_list m xs ys here there = same_records ys xs there.ordered here.ordered (λ k. there.versions k ∙ sym (here.versions k))

@@ -2,8 +2,8 @@
 use Rattle.std.proofs.Common.{◌≡◌, ℕ, ◌+◌, ◌<◌, true, false, if◌then◌else◌, List, [], ◌∷◌, ◌++◌, map, length, get_or, take, filter, ap, ◌∙◌}
 use Rattle.std.proofs.lemmas.List.Elements.{filter-append}
 use Rattle.std.proofs.lemmas.List.{append-nil, map-append, take_more}
-use Rattle.table_store.specs.Records.{has_key, record_version, of_key}
-use Rattle.table_store.specs.declared.record.Record.{Record}
+use Rattle.records.specs.Records.{has_key, record_version, of_key}
+use Rattle.records.specs.declared.record.Record.{Record}
 
 pub of_key_append : (k : ℕ) (xs ys : List Record) → of_key k (xs ++ ys) ≡ of_key k xs ++ of_key k ys
 of_key_append k xs ys =

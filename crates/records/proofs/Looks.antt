@@ -2,10 +2,10 @@
 use Rattle.std.proofs.Common.{◌≡◌, ℕ, ◌-◌, ◌<◌, ◌≤◌, nat_le, List, [], ◌∷◌, ◌++◌, Some, ap, ◌∙◌}
 use Rattle.std.proofs.lemmas.Bool.{cond-true, cond-false, eq-eqb, le-leb, lt-leb}
 use Rattle.store.specs.Meaning.{reading_of, newest_at}
-use Rattle.table_store.proofs.Keys.{of_key_push_yes}
-use Rattle.table_store.proofs.Pushes.{newest_push}
-use Rattle.table_store.specs.Records.{record_version, of_key}
-use Rattle.table_store.specs.declared.record.Record.{Record}
+use Rattle.records.proofs.Keys.{of_key_push_yes}
+use Rattle.records.proofs.Pushes.{newest_push}
+use Rattle.records.specs.Records.{record_version, of_key}
+use Rattle.records.specs.declared.record.Record.{Record}
 
 module _ (k s end : ℕ) (rs : List Record) (r : Record) (all : List Record) (is : all ≡ rs ++ r ∷ []) where
   pub looked_found : r.key ≡ k → r.timestamp ≤ s → newest_at s end (of_key k all) ≡ Some (reading_of (record_version r) end)

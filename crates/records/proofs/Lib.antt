@@ -1,0 +1,12 @@
+pub mod Pushes
+pub mod Keys
+pub mod Looks
+pub mod Counting
+pub mod Dropping
+pub mod Running
+pub mod Layouts
+pub mod Uniqueness
+pub mod Capacities
+pub mod Holding
+pub mod Walking
+pub mod Totals
