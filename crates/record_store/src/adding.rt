@@ -41,17 +41,20 @@ pub(crate) fn append<M: RecordMemory>(
     ensures tidy { M.tidy memory.old kept ≡ true → M.tidy memory.new (kept + length update.entry.writes.now) ≡ true }
     ensures same { (M.name memory.new ≡ M.name memory.old) × (M.fit memory.new ≡ M.fit memory.old) }
 {
-    for (number, write) in update.writes.iter().enumerate() {
+    let mut end = kept;
+    for write in update.writes {
         let new = Record {
             key: write.key,
             timestamp: update.timestamp,
             value: write.value,
         };
-        push(memory, kept + number, counts, new);
+        push(memory, end, counts, new);
+        end += 1;
     }
 }
 
 // Leaves the records of a new store, and nothing else; answers how many there are of each key.
+#[tactic(auto, using(records::proofs::Layouts::first_none, records::proofs::Layouts::first_more, crate::proofs::Added::none_counted))]
 pub(crate) fn start<M: RecordMemory>(memory: &mut M) -> PerKey
     requires room { key_count ≤ length (M.records memory.old) }
     requires small { length (M.records memory.old) ≤ most_records }
@@ -63,13 +66,15 @@ pub(crate) fn start<M: RecordMemory>(memory: &mut M) -> PerKey
 {
     memory.erase();
     let mut counts = PerKey::none();
+    let mut kept = 0;
     for key in 0..KEYS {
         let new = Record {
             key,
             timestamp: 0,
             value: 0,
         };
-        push(memory, usize::from(key), &mut counts, new);
+        push(memory, kept, &mut counts, new);
+        kept += 1;
     }
     counts
 }

@@ -1,6 +1,6 @@
 -- What dropping first records and adding the records of writes do to a list: its order, its soundness, and the versions
 -- of each key.
-use Rattle.std.proofs.Common.{◌≡◌, ℕ, zero, suc, ◌+◌, ◌-◌, ◌<◌, ◌≤◌, Bool, true, false, if◌then◌else◌, ◌&&◌, ◌==◌, nat_lt, List, [], ◌∷◌, ◌++◌, map, length, drop, Some, None, filter, Option, sym, refl, ap, ◌∙◌, ⊎_elim, arith}
+use Rattle.std.proofs.Common.{◌≡◌, ℕ, zero, suc, ◌+◌, ◌-◌, ◌<◌, ◌≤◌, Bool, true, false, if◌then◌else◌, ◌&&◌, ◌==◌, nat_lt, List, [], ◌∷◌, ◌++◌, map, length, drop, Some, None, filter, Option, sym, refl, ap, add-one, ◌∙◌, ⊎_elim, arith}
 use Rattle.std.specs.List.{AllByRecursion, list_all}
 use Rattle.std.proofs.lemmas.List.{append-nil, drop_all, drop-append-le, length_push}
 use Rattle.std.proofs.lemmas.List.Folds.{list_all-append}
@@ -312,3 +312,11 @@ first_versions (suc n) k =
 
 pub first_kept : (k : ℕ) → of_key k (first_records key_count) ≡ (if is_key k then version_of 0 0 ∷ [] else [])
 first_kept k = first_versions key_count k
+
+pub first_none : first_records 0 ≡ []
+unfolding first_records
+first_none = refl
+
+pub first_more : (n : ℕ) → first_records (n + 1) ≡ first_records n ++ record_of n 0 0 ∷ []
+unfolding first_records
+first_more n = ap first_records (add-one n)
