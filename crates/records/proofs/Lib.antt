@@ -10,3 +10,4 @@ pub mod Capacities
 pub mod Holding
 pub mod Walking
 pub mod Totals
+pub mod Remaining
