@@ -45,7 +45,7 @@ pub(crate) fn count_up_to<M: RecordMemory>(memory: &M, kept: usize, time: u64) -
     let mut step = 1;
     while step <= high && time < memory.at(high - step).timestamp {
         high -= step;
-        step *= 2;
+        step = step.saturating_mul(2);
     }
     let mut low = high.saturating_sub(step);
     while low < high {

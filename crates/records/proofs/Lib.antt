@@ -11,3 +11,4 @@ pub mod Holding
 pub mod Walking
 pub mod Totals
 pub mod Remaining
+pub mod Orders
