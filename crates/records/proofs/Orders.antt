@@ -31,3 +31,11 @@ timestamps_rise xs kept i j within o le lt =
     let long : j < length (take kept xs) = omega (arith, length-take-le kept xs within) in
     let up = rising (take kept xs) i j o le long in
     subst (λ r. (get_or xs i no_record).timestamp ≤ r.timestamp) second (subst (λ r. r.timestamp ≤ (get_or (take kept xs) j no_record).timestamp) first up)
+
+-- so one record decides for those before it, or for those from it on
+module _ (xs : List Record) (kept time : ℕ) (within : kept ≤ length xs) (o : in_order (take kept xs) ≡ true) (p : ℕ) (lt : p < kept) where
+  pub none_later : (get_or xs p no_record).timestamp ≤ time → (i : ℕ) → i ≤ p → (get_or xs i no_record).timestamp ≤ time
+  none_later early i le = let up = timestamps_rise xs kept i p within o le lt in omega arith
+
+  pub all_later : time < (get_or xs p no_record).timestamp → (i : ℕ) → p ≤ i → i < kept → time < (get_or xs i no_record).timestamp
+  all_later late i le below = let up = timestamps_rise xs kept p i within o le below in omega arith
