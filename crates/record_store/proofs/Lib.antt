@@ -1,2 +1,4 @@
 pub mod Zeros
 pub mod Added
+pub mod Excesses
+pub mod Commits

@@ -1,6 +1,8 @@
 // Adding records after the last, and the records of a new store.
 ghost use Rattle.std.specs.Prelude.{◌≡◌, ℕ, ◌+◌, ◌≤◌, ◌<◌, [], ◌∷◌, ◌++◌, true, length, map, take};
 ghost use Rattle.snapshot.specs.Limits.{key_count, most_records};
+ghost use Rattle.store.specs.Meaning.{new_store};
+ghost use Rattle.records.specs.Layouts.{are_sound, capacity_for, loan_of, memory_meaning, room_for};
 ghost use Rattle.records.specs.Records.{first_records, written};
 ghost use Rattle.record_store.specs.Counts.{CountsOf};
 
@@ -55,7 +57,7 @@ pub(crate) fn append<M: RecordMemory>(
 
 // Leaves the records of a new store, and nothing else; answers how many there are of each key.
 #[tactic(auto, using(records::proofs::Layouts::first_none, records::proofs::Layouts::first_more, crate::proofs::Added::none_counted))]
-pub(crate) fn start<M: RecordMemory>(memory: &mut M) -> PerKey
+fn start<M: RecordMemory>(memory: &mut M) -> PerKey
     requires room { key_count ≤ length (M.records memory.old) }
     requires small { length (M.records memory.old) ≤ most_records }
     ensures added { take key_count (M.records memory.new) ≡ first_records key_count }
@@ -77,4 +79,22 @@ pub(crate) fn start<M: RecordMemory>(memory: &mut M) -> PerKey
         kept += 1;
     }
     counts
+}
+
+// Begins a store in this memory, and leaves unfit memory alone. Answers how many records it then lists, and how many of each
+// key.
+#[tactic(auto, using(crate::proofs::Commits::first_are_sound, crate::proofs::Commits::first_meaning, crate::proofs::Added::none_counted))]
+pub(crate) fn begin<M: RecordMemory>(memory: &mut M) -> (usize, PerKey)
+    ensures within { result.0 ≤ room_for (M.fit memory.new) (length (M.records memory.new)) }
+    ensures tidy { M.fit memory.new ≡ true → M.tidy memory.new result.0 ≡ true }
+    ensures sound { are_sound (M.fit memory.new) (take result.0 (M.records memory.new)) 0 ≡ true }
+    ensures counted { CountsOf result.1 (take result.0 (M.records memory.new)) }
+    ensures meaning { memory_meaning M.fit M.records memory.new result.0 0 ≡ new_store (capacity_for (M.fit memory.old) (length (M.records memory.old))) }
+    ensures loan { loan_of M.name M.records M.fit M.held memory.new ≡ loan_of M.name M.records M.fit M.held memory.old }
+{
+    if !memory.is_fit() {
+        return (0, PerKey::none());
+    }
+    let counts = start(memory);
+    (usize::from(KEYS), counts)
 }

@@ -8,7 +8,7 @@ ghost use Rattle.records.specs.PerKeys.{number_for, total_of};
 ghost use Rattle.records.specs.Records.{drop_firsts, written};
 ghost use Rattle.record_store.specs.Counts.{CountsOf, excess_for};
 
-use crate::adding::{append, start};
+use crate::adding::{append, begin};
 use crate::dropping::{count_versions, drop_runs, excess_versions, total_excess};
 use crate::looking::{count_up_to, newest_at};
 use crate::memory::RecordMemory;
@@ -16,7 +16,6 @@ use records::per_key::PerKey;
 use records::record::Record;
 use snapshot::account::{Reading, Write};
 use snapshot::fault::{Fault, Layer, Refusal};
-use snapshot::limits::KEYS;
 use store::checks::{check_commit, check_query};
 use store::traits::{Reads, Store};
 use store::update::Update;
@@ -45,21 +44,12 @@ impl<M: RecordMemory> RecordStore<M> {
         ensures loan { loan_of M.name M.records M.fit M.held result.memory ≡ loan_of M.name M.records M.fit M.held memory }
     {
         let mut memory = memory;
-        if memory.is_fit() {
-            let counts = start(&mut memory);
-            RecordStore {
-                memory,
-                kept: usize::from(KEYS),
-                last: 0,
-                counts,
-            }
-        } else {
-            RecordStore {
-                memory,
-                kept: 0,
-                last: 0,
-                counts: PerKey::none(),
-            }
+        let (kept, counts) = begin(&mut memory);
+        RecordStore {
+            memory,
+            kept,
+            last: 0,
+            counts,
         }
     }
 

@@ -13,7 +13,7 @@ loop-step-preserved g c =
     record {
       within = omega (arith, known.within);
       some = omega (arith, known.some, c.saturating_mul-step.ensures);
-      after = all_later _ c.args.kept c.args.time c.requires.within c.requires.order _ lt (subst (λ r. c.args.time < r.timestamp) c.at.ensures c.if-time-at.true)
+      after = all_later _ c.args.kept c.args.time c.requires.within c.requires.order _ lt (subst (λ r. c.args.time < r.timestamp) c.at.ensures c.if-time-at.true);
     }
 
 pub loop-low-init : goal.loop-low-init
@@ -29,14 +29,14 @@ loop-low-init g c =
             order = omega (arith, low);
             within = known.within;
             before = λ i below. early i (omega (arith, low, below));
-            after = known.after
+            after = known.after;
           }
       | else-loop-step-test w ↦
           record {
             order = omega (arith, low);
             within = known.within;
             before = λ i below. absurd (omega (arith, low, below, w.loop-step-test.false));
-            after = known.after
+            after = known.after;
           }
     ]
 
@@ -51,7 +51,7 @@ loop-low-preserved-then-at-time g c =
       order = omega (arith, below);
       within = known.within;
       before = λ i lt. early i (omega (arith, lt));
-      after = known.after
+      after = known.after;
     }
 
 pub loop-low-preserved : goal.loop-low-preserved
@@ -64,5 +64,5 @@ loop-low-preserved g c =
       order = omega arith;
       within = omega (arith, below, known.within);
       before = known.before;
-      after = all_later _ c.args.kept c.args.time c.requires.within c.requires.order middle (omega (arith, below, known.within)) (subst (λ r. c.args.time < r.timestamp) c.at-in-loop-low.ensures c.if-at-time.false)
+      after = all_later _ c.args.kept c.args.time c.requires.within c.requires.order middle (omega (arith, below, known.within)) (subst (λ r. c.args.time < r.timestamp) c.at-in-loop-low.ensures c.if-at-time.false);
     }

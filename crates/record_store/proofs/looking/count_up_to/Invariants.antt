@@ -7,7 +7,7 @@ abbrev pub invariant-loop-step : goal.invariant-loop-step
 invariant-loop-step g l = record {
   within : l.high ≤ l.kept;
   some : 0 < l.step;
-  after : (i : ℕ) → l.high ≤ i → i < l.kept → l.time < (slice_index_or (g.M.RecordMemory.records l.memory) i no_record).timestamp
+  after : (i : ℕ) → l.high ≤ i → i < l.kept → l.time < (slice_index_or (g.M.RecordMemory.records l.memory) i no_record).timestamp;
 }
 
 abbrev pub decreases-loop-step : goal.decreases-loop-step
@@ -18,7 +18,7 @@ invariant-loop-low g l = record {
   order : l.low ≤ l.high;
   within : l.high ≤ l.kept;
   before : (i : ℕ) → i < l.low → (slice_index_or (g.M.RecordMemory.records l.memory) i no_record).timestamp ≤ l.time;
-  after : (i : ℕ) → l.high ≤ i → i < l.kept → l.time < (slice_index_or (g.M.RecordMemory.records l.memory) i no_record).timestamp
+  after : (i : ℕ) → l.high ≤ i → i < l.kept → l.time < (slice_index_or (g.M.RecordMemory.records l.memory) i no_record).timestamp;
 }
 
 abbrev pub decreases-loop-low : goal.decreases-loop-low

@@ -1,0 +1,164 @@
+-- What a new store, a commit and a prune leave of the records that a store of records lists: they are sound, and mean what the
+-- rules say.
+use Rattle.std.proofs.Common.{◌≡◌, ℕ, ◌+◌, ◌-◌, ◌<◌, ◌≤◌, Bool, true, false, if◌then◌else◌, ◌&&◌, nat_lt, nat_le, List, [], ◌∷◌, ◌++◌, map, length, drop, Some, None, Option, sym, refl, ap, ◌∙◌, subst, arith}
+use Rattle.std.specs.Option.{option_or}
+use Rattle.std.specs.List.{list_all}
+use Rattle.std.proofs.lemmas.Bool.{and_parts, and_from, cond_both, cond-true, cond-false, le-leb, lt-leb}
+use Rattle.std.proofs.lemmas.Bool.Decides.{nat_tests}
+use Rattle.std.proofs.lemmas.List.{length-append, length-map}
+use Rattle.snapshot.specs.Limits.{is_key, key_count}
+use Rattle.snapshot.specs.declared.account.Write.{Write}
+use Rattle.store.proofs.Writes.{fit_rises, fit_some}
+use Rattle.store.specs.Meaning.{Meaning, fit_writes, version_of, new_store, newest_at, pruned_at, reading_of, written_to, with_writes, versions_below, versions_kept, outdated}
+use Rattle.store.specs.declared.version.Version.{Version}
+use Rattle.records.proofs.Dropping.{same_function}
+use Rattle.records.proofs.Layouts.{all_from, all_left, commit_order, commit_sound, first_kept, first_length, first_order, first_sound, of_key_commit, of_key_prune, order_left, versions_together}
+use Rattle.records.proofs.Remaining.{left_length}
+use Rattle.records.proofs.Totals.{none_total}
+use Rattle.records.specs.Layouts.{are_sound, capacity_for, in_order, record_depth, records_meaning, room_for, shown, sound_record}
+use Rattle.records.specs.PerKeys.{number_for, per_key, total_of}
+use Rattle.records.specs.Records.{after_writes, drop_firsts, excess, first_records, of_key, written}
+use Rattle.records.specs.declared.per_key.PerKey.{PerKey}
+use Rattle.records.specs.declared.record.Record.{Record}
+use Rattle.record_store.proofs.Excesses.{excess_is}
+use Rattle.record_store.specs.Counts.{CountsOf, excess_for}
+
+keyed : (last : ℕ) (rs : List Record) → list_all (sound_record last) rs ≡ true → list_all (λ r. is_key r.key) rs ≡ true
+keyed last rs s = all_from (sound_record last) (λ r. is_key r.key) (λ r h. (and_parts (is_key r.key) (nat_le r.timestamp last) h).0) rs s
+
+-- the parts of soundness in fit memory
+pub sound_records : (rs : List Record) (last : ℕ) → are_sound true rs last ≡ true → list_all (sound_record last) rs ≡ true
+sound_records rs last s = (and_parts (list_all (sound_record last) rs) (in_order rs) s).0
+
+pub ordered : (rs : List Record) (last : ℕ) → are_sound true rs last ≡ true → in_order rs ≡ true
+ordered rs last s = (and_parts (list_all (sound_record last) rs) (in_order rs) s).1
+
+pub keys_in : (rs : List Record) (last : ℕ) → are_sound true rs last ≡ true → list_all (λ r. is_key r.key) rs ≡ true
+keys_in rs last s = keyed last rs (sound_records rs last s)
+
+-- records that mean these versions of each key
+meaning_at : (size last : ℕ) (rs : List Record) (kept : ℕ → List Version) → ((k : ℕ) → of_key k rs ≡ kept k) → records_meaning true size rs last ≡ record { last = last; capacity = size; kept = kept }
+meaning_at size last rs kept each i = record { last = last; capacity = size; kept = λ k. each k i }
+
+-- A new store.
+
+pub first_are_sound : (fit : Bool) (rs : List Record) (last : ℕ) → (fit ≡ true → rs ≡ first_records key_count) → are_sound fit rs last ≡ true
+first_are_sound true rs last is =
+    subst (λ xs. are_sound true xs last ≡ true) (sym (is refl))
+    (and_from (list_all (sound_record last) (first_records key_count)) (in_order (first_records key_count)) (first_sound last) (first_order key_count))
+first_are_sound false rs last is =
+    and_from (list_all (sound_record last) (first_records key_count)) (in_order (first_records key_count)) (first_sound last) (first_order key_count)
+
+first_versions : (size : ℕ) → records_meaning true size (first_records key_count) 0 ≡ new_store size
+first_versions size = meaning_at size 0 (first_records key_count) (new_store size).kept first_kept
+
+pub first_meaning : (fit : Bool) (size : ℕ) (rs : List Record) → (fit ≡ true → rs ≡ first_records key_count) → records_meaning fit size rs 0 ≡ new_store (capacity_for fit size)
+first_meaning true size rs is = ap (λ xs. records_meaning true size xs 0) (is refl) ∙ first_versions size
+first_meaning false size rs is = first_versions key_count
+
+-- over unfit memory every key has its first version
+pub unfit_newest : (size : ℕ) (rs : List Record) (last k s : ℕ) → is_key k ≡ true → Some (reading_of (version_of 0 0) last) ≡ newest_at s last ((records_meaning false size rs last).kept k)
+unfit_newest size rs last k s key =
+    let vs = first_kept k ∙ cond-true (is_key k) (version_of 0 0 ∷ []) [] key in
+    sym
+    (ap (newest_at s last) vs
+    ∙ ap (λ c. option_or None (if c then Some (reading_of (version_of 0 0) last) else None)) (le-leb 0 s (omega arith)))
+
+-- A commit.
+
+no_excess : (o : Option ℕ) (vs : List Version) → length vs ≤ 1 → excess record_depth o vs ≡ 0
+no_excess None vs few = refl
+no_excess (Some x) vs few = omega arith
+
+drops_none : (e : ℕ → ℕ) (rs : List Record) → ((k : ℕ) → e k ≡ 0) → drop_firsts e rs ≡ rs
+drops_none e [] none = refl
+drops_none e (r ∷ rs) none =
+    cond-false (nat_lt 0 (e r.key)) _ _ (grind (arith, nat_tests, none r.key)) ∙ ap (λ xs. r ∷ xs) (drops_none e rs none)
+
+-- the keys of a new store drop nothing when they are written
+first_excess : (ws : List Write) (k : ℕ) → per_key (λ j. excess record_depth (written_to j ws) (of_key j (first_records key_count))) k ≡ 0
+first_excess ws k =
+    let one : length (of_key k (first_records key_count)) ≤ 1 =
+    omega (arith, ap length (first_kept k), cond_both (is_key k) (version_of 0 0 ∷ []) [] (λ vs. length vs ≤ 1) (λ _. omega arith) (λ _. omega arith)) in
+    cond_both (is_key k) _ 0 (λ x. x ≡ 0) (λ _. no_excess (written_to k ws) (of_key k (first_records key_count)) one) (λ _. refl)
+
+excess_le : (o : Option ℕ) (vs : List Version) → excess record_depth o vs ≤ length vs
+excess_le None vs = omega arith
+excess_le (Some x) vs = omega arith
+
+per_key_le : (f g : ℕ → ℕ) (k : ℕ) → f k ≤ g k → per_key f k ≤ g k
+per_key_le f g k le = cond_both (is_key k) (f k) 0 (λ n. n ≤ g k) (λ _. le) (λ _. omega arith)
+
+module _ (t : ℕ) (ws : List Write) (fit_ws : fit_writes ws ≡ true) (rs : List Record) where
+  abbrev pub dropping : ℕ → ℕ
+  dropping k = per_key (λ j. excess record_depth (written_to j ws) (of_key j rs)) k
+
+  after_length : length (after_writes record_depth t ws rs) ≡ length (drop_firsts dropping rs) + length ws
+  after_length =
+      length-append (drop_firsts dropping rs) (map (written t) ws)
+      ∙ ap (λ n. length (drop_firsts dropping rs) + n) (length-map ws (written t))
+
+  -- as many versions as records, in memory that is fit
+  module _ (size last : ℕ) (later : last < t) (sound : are_sound true rs last ≡ true) where
+    abbrev m : Meaning
+    m = records_meaning true size rs last
+
+    pub after_sound : are_sound true (after_writes record_depth t ws rs) t ≡ true
+    after_sound =
+        and_from (list_all (sound_record t) (after_writes record_depth t ws rs)) (in_order (after_writes record_depth t ws rs))
+        (commit_sound record_depth last t ws rs later (fit_rises ws fit_ws) (sound_records rs last sound))
+        (commit_order record_depth last t ws rs later (fit_rises ws fit_ws) (sound_records rs last sound) (ordered rs last sound))
+
+    pub after_meaning : records_meaning true size (after_writes record_depth t ws rs) t ≡ with_writes record_depth t ws m
+    after_meaning =
+        meaning_at size t (after_writes record_depth t ws rs) (with_writes record_depth t ws m).kept (of_key_commit record_depth t ws rs (omega arith) (fit_rises ws fit_ws))
+
+    pub drops : length (drop_firsts dropping rs) + total_of dropping ≡ length rs
+    drops =
+        left_length dropping rs (keys_in rs last sound)
+        (λ k. per_key_le (λ j. excess record_depth (written_to j ws) (of_key j rs)) (λ j. length (of_key j rs)) k (excess_le (written_to k ws) (of_key k rs)))
+
+    versions_after : versions_kept (with_writes record_depth t ws m) ≡ length (after_writes record_depth t ws rs)
+    versions_after =
+        ap versions_kept (sym after_meaning)
+        ∙ versions_together (after_writes record_depth t ws rs) (keys_in (after_writes record_depth t ws rs) t after_sound)
+
+    pub fit_room : versions_kept (with_writes record_depth t ws m) ≡ length rs - total_of dropping + length ws
+    fit_room = omega (arith, versions_after, after_length, drops)
+
+-- over unfit memory there is no room for a write: a new store has 64 versions already
+pub unfit_full : (t : ℕ) (ws : List Write) (fit_ws : fit_writes ws ≡ true) (size : ℕ) (rs : List Record) (last : ℕ) → last < t → key_count < versions_kept (with_writes record_depth t ws (records_meaning false size rs last))
+unfit_full t ws fit_ws size rs last later =
+    let first = first_records key_count in
+    let sound = first_are_sound true first last (λ _. refl) in
+    let none = none_total key_count (dropping t ws fit_ws first) (first_excess ws) in
+    omega (arith, fit_room t ws fit_ws first size last later sound, none, first_length key_count, fit_some ws fit_ws)
+
+-- what goes of each key for a commit, by the numbers of versions
+pub goes : (p : PerKey) (rs : List Record) (ws : List Write) → CountsOf p rs → (λ k. excess_for record_depth (written_to k ws) (number_for p k)) ≡ per_key (λ j. excess record_depth (written_to j ws) (of_key j rs))
+goes p rs ws counted = same_function (λ k. sym (excess_is record_depth p rs ws counted k))
+
+-- A prune.
+
+module _ (h size last : ℕ) (rs : List Record) (sound : are_sound true rs last ≡ true) where
+  abbrev outdates : ℕ → ℕ
+  outdates k = per_key (λ j. outdated h (of_key j rs)) k
+
+  pub pruned_sound : (e : ℕ → ℕ) → are_sound true (drop_firsts e rs) last ≡ true
+  pruned_sound e =
+      and_from (list_all (sound_record last) (drop_firsts e rs)) (in_order (drop_firsts e rs))
+      (all_left (sound_record last) e rs (sound_records rs last sound))
+      (order_left e rs (ordered rs last sound))
+
+  pub pruned_meaning : (e : ℕ → ℕ) → ((k : ℕ) → e k ≡ outdates k) → records_meaning true size (drop_firsts e rs) last ≡ pruned_at h (records_meaning true size rs last)
+  pruned_meaning e is =
+      meaning_at size last (drop_firsts e rs) (pruned_at h (records_meaning true size rs last)).kept
+      (λ k. ap (λ f. of_key k (drop_firsts f rs)) (same_function is) ∙ of_key_prune h rs (keys_in rs last sound) k)
+
+-- over unfit memory a prune finds nothing to drop
+pub unfit_pruned : (h size last : ℕ) (rs : List Record) → records_meaning false size rs last ≡ pruned_at h (records_meaning false size rs last)
+unfit_pruned h size last rs i =
+    let P : List Version → Type 0 = λ xs. xs ≡ drop (outdated h xs) xs in
+    let each : (k : ℕ) → P (of_key k (first_records key_count)) = λ k.
+    subst P (sym (first_kept k)) (cond_both (is_key k) (version_of 0 0 ∷ []) [] P (λ _. refl) (λ _. refl)) in
+    record { last = last; capacity = key_count; kept = λ k. each k i }
