@@ -136,7 +136,7 @@ unfit_full t ws fit_ws size rs last later =
 
 -- what goes of each key for a commit, by the numbers of versions
 pub goes : (p : PerKey) (rs : List Record) (ws : List Write) → CountsOf p rs → (λ k. excess_for record_depth (written_to k ws) (number_for p k)) ≡ per_key (λ j. excess record_depth (written_to j ws) (of_key j rs))
-goes p rs ws counted = same_function (λ k. sym (excess_is record_depth p rs ws counted k))
+goes p rs ws counted = same_function (λ k. sym (excess_is record_depth ws p rs counted k))
 
 -- A prune.
 

@@ -1,4 +1,3 @@
 pub mod Zeros
 pub mod Added
-pub mod Excesses
 pub mod Commits
