@@ -1,3 +1,4 @@
 pub mod Zeros
 pub mod Added
 pub mod Commits
+pub mod Excesses

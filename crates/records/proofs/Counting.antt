@@ -1,18 +1,20 @@
 -- Numbers that are kept for each key while a list is walked: one more record, or one more write, changes one key's number.
-use Rattle.std.proofs.Common.{◌≡◌, ℕ, ◌+◌, ◌-◌, ◌<◌, ◌≤◌, Bool, true, false, if◌then◌else◌, ◌&&◌, ◌==◌, nat_le, List, [], ◌∷◌, ◌++◌, length, get_or, take, Some, None, filter, Option, sym, refl, ap, ◌∙◌, subst, ⊎_elim, arith}
+use Rattle.std.proofs.Common.{◌≡◌, ℕ, zero, suc, ◌+◌, ◌<◌, ◌≤◌, Bool, true, false, if◌then◌else◌, ◌&&◌, ◌==◌, nat_le, List, [], ◌∷◌, ◌++◌, length, get_or, take, Some, None, filter, Option, sym, refl, ap, ◌∙◌, subst, ⊎_elim, arith}
 use Rattle.std.specs.Option.{option_or}
 use Rattle.std.proofs.lemmas.List.{length-map, length_push, length-take, take_more}
 use Rattle.std.proofs.lemmas.List.Sums.{length-filter, count_by-le-length}
 use Rattle.std.proofs.lemmas.Bool.{cases_eq, cond-true, cond-false, cond_both, eq-eqb, ne_eqb, le-leb, lt-leb}
+use Rattle.std.proofs.lemmas.Bool.Decides.{nat_tests}
 use Rattle.snapshot.proofs.Zeros.{zero_write}
-use Rattle.snapshot.specs.Limits.{is_key}
+use Rattle.snapshot.specs.Accounts.{rising_from}
+use Rattle.snapshot.specs.Limits.{is_key, key_count}
 use Rattle.snapshot.specs.declared.account.Write.{Write}
 use Rattle.store.specs.Meaning.{outdated, written_to}
-use Rattle.store.specs.declared.version.Version.{Version}
+use Rattle.store.proofs.Writes.{rising_keys, rising_later}
 use Rattle.records.proofs.Keys.{of_key_more_yes, of_key_more_no}
 use Rattle.records.proofs.Pushes.{outdated_push}
 use Rattle.records.specs.PerKeys.{number_for, per_key, with}
-use Rattle.records.specs.Records.{has_key, record_version, of_key, excess, no_record}
+use Rattle.records.specs.Records.{has_key, record_version, of_key, no_record}
 use Rattle.records.specs.declared.per_key.PerKey.{PerKey}
 use Rattle.records.specs.declared.record.Record.{Record}
 
@@ -120,33 +122,47 @@ written_push k [] w = refl
 written_push k (v ∷ ws) w =
     ap (λ o. if v.key == k then Some v.value else o) (written_push k ws w) ∙ earlier (v.key == k) v.value (written_to k ws) (if w.key == k then Some w.value else None)
 
-excess_written : (depth : ℕ) (o : Option ℕ) (x : ℕ) (vs : List Version) → excess depth (option_or o (Some x)) vs ≡ length vs - (depth - 1)
-excess_written depth None x vs = refl
-excess_written depth (Some y) x vs = refl
-
--- how many versions each key drops for the first writes
-abbrev pub excess_for : ℕ → List Write → List Record → ℕ → ℕ
-excess_for depth ws rs k = excess depth (written_to k ws) (of_key k rs)
-
-module _ (depth : ℕ) (rs : List Record) (ws : List Write) (i : ℕ) (lt : i < length ws) where
+module _ (ws : List Write) (i : ℕ) (lt : i < length ws) where
   abbrev write : Write
   write = get_or ws i zero_write
 
   written_more : (k : ℕ) → written_to k (take (i + 1) ws) ≡ option_or (written_to k (take i ws)) (if write.key == k then Some write.value else None)
   written_more k = ap (written_to k) (take_more ws i zero_write lt) ∙ written_push k (take i ws) write
 
-  pub excess_more :
-      (p q counts : PerKey) (n : ℕ) → Numbers p (excess_for depth (take i ws) rs) → Numbers counts (counted rs) → n ≡ number_for counts write.key →
-      ((k : ℕ) → number_for q k ≡ with (number_for p) write.key (n - (depth - 1)) k) → Numbers q (excess_for depth (take (i + 1) ws) rs)
-  excess_more p q counts n old counting count made =
-      set_more p q (excess_for depth (take i ws) rs) (excess_for depth (take (i + 1) ws) rs) write.key (n - (depth - 1)) old made
-      (λ key_in.
-      ap (λ o. excess depth o (of_key write.key rs))
-      (written_more write.key ∙ ap (λ b. option_or (written_to write.key (take i ws)) (if b then Some write.value else None)) (eq-eqb write.key write.key refl))
-      ∙ excess_written depth (written_to write.key (take i ws)) write.value (of_key write.key rs)
-      ∙ ap (λ m. m - (depth - 1)) (sym (number_at counts (counted rs) write.key n counting count key_in)))
-      (λ k ne.
-      ap (λ o. excess depth o (of_key k rs))
-      (written_more k
+  pub written_here : written_to write.key (take (i + 1) ws) ≡ option_or (written_to write.key (take i ws)) (Some write.value)
+  written_here =
+      written_more write.key
+      ∙ ap (λ b. option_or (written_to write.key (take i ws)) (if b then Some write.value else None)) (eq-eqb write.key write.key refl)
+
+  pub written_elsewhere : (k : ℕ) → (write.key ≡ k → ⊥) → written_to k (take (i + 1) ws) ≡ written_to k (take i ws)
+  written_elsewhere k ne =
+      written_more k
       ∙ ap (λ b. option_or (written_to k (take i ws)) (if b then Some write.value else None)) (ne_eqb write.key k ne)
-      ∙ or_none (written_to k (take i ws))))
+      ∙ or_none (written_to k (take i ws))
+
+-- Writes whose keys rise.
+
+rising_at : (least : ℕ) (ws : List Write) (i : ℕ) → rising_from least ws ≡ true → i < length ws → least ≤ (get_or ws i zero_write).key
+rising_at least [] i rising lt = absurd (omega arith)
+rising_at least (w ∷ ws) zero rising lt = grind (arith, nat_tests)
+rising_at least (w ∷ ws) (suc i) rising lt =
+    let le : least ≤ w.key = grind (arith, nat_tests) in
+    omega (arith, le, rising_at (suc w.key) ws i (rising_later least w ws rising) (omega arith))
+
+-- no key is written before its write
+pub unwritten_before : (least : ℕ) (ws : List Write) (i : ℕ) → rising_from least ws ≡ true → i < length ws → written_to (get_or ws i zero_write).key (take i ws) ≡ None
+unwritten_before least [] i rising lt = absurd (omega arith)
+unwritten_before least (w ∷ ws) zero rising lt = refl
+unwritten_before least (w ∷ ws) (suc i) rising lt =
+    let key = (get_or ws i zero_write).key in
+    let later = rising_later least w ws rising in
+    let within : i < length ws = omega arith in
+    let above = rising_at (suc w.key) ws i later within in
+    cond-false (w.key == key) (Some w.value) (written_to key (take i ws)) (ne_eqb w.key key (λ e. omega (arith, e, above)))
+    ∙ unwritten_before (suc w.key) ws i later within
+
+-- the key of each write is one that there is
+pub written_keys : (least : ℕ) (ws : List Write) (i : ℕ) → rising_from least ws ≡ true → i < length ws → (get_or ws i zero_write).key < key_count
+written_keys least [] i rising lt = absurd (omega arith)
+written_keys least (w ∷ ws) zero rising lt = (rising_keys least (w ∷ ws) rising).0
+written_keys least (w ∷ ws) (suc i) rising lt = written_keys (suc w.key) ws i (rising_later least w ws rising) (omega arith)
