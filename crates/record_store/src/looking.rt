@@ -1,9 +1,9 @@
 // Looking for a version in records by order of time.
-ghost use Rattle.std.specs.Prelude.{◌≡◌, ℕ, ◌≤◌, ◌<◌, ◌-◌, true, length, take, drop, slice_index_or};
-ghost use Rattle.std.specs.List.{list_all};
+ghost use Rattle.std.specs.Prelude.{◌≡◌, ℕ, ◌≤◌, ◌<◌, true, None, filter, length, take, drop, slice_index_or};
+ghost use Rattle.std.specs.List.{last_or};
 ghost use Rattle.store.specs.Meaning.{end_before, newest_at};
-ghost use Rattle.records.specs.Layouts.{in_order, sound_record};
-ghost use Rattle.records.specs.Records.{no_record, of_key};
+ghost use Rattle.records.specs.Layouts.{in_order};
+ghost use Rattle.records.specs.Records.{has_key, no_record, of_key};
 
 use crate::memory::RecordMemory;
 use records::record::Record;
@@ -78,6 +78,7 @@ fn promise_after<M: RecordMemory>(memory: &M, start: usize, kept: usize, key: u8
 // The last of the first `end` records that is of the key.
 fn last_of_key<M: RecordMemory>(memory: &M, end: usize, key: u8) -> Option<Record>
     requires { end ≤ length (M.records memory.now) }
+    ensures { result ≡ last_or None (filter (has_key key) (take end (M.records memory.now))) }
 {
     for place in (0..end).rev() {
         let record = memory.at(place);

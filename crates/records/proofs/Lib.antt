@@ -12,3 +12,5 @@ pub mod Walking
 pub mod Totals
 pub mod Remaining
 pub mod Orders
+pub mod Finding
+pub mod Outdated
