@@ -31,13 +31,13 @@ use Rattle.engine_model.proofs.TraceProofs.{the_rules_lawful}
 use Rattle.engine.specs.ChainCalls.{on_open}
 use Rattle.engine.specs.Chains.{chain_of}
 use Rattle.engine.specs.Commits.{committing_leg, answer_and_lists, account_in, given_to_store}
-use Rattle.engine.specs.Engines.{CallersLists, engine_of}
+use Rattle.engine.specs.Engines.{CallersLists, engine_over}
 use Rattle.engine.specs.Legs.{open_leg_of}
 use Rattle.engine.specs.EngineLaw.{AddsAccount, InEveryTrace}
 use Rattle.engine.specs.Naming.{naming, leg_in_range}
 use Rattle.engine.specs.StepOf.{step_of}
 use Rattle.engine.specs.declared.chain.Chain.{Chain}
-use Rattle.engine.specs.declared.engine.Engine.{Engine}
+use Rattle.engine.specs.declared.state.State.{State}
 use Rattle.engine.specs.declared.leg.OpenLeg.{OpenLeg}
 use Rattle.engine.specs.declared.named.Named.{Named}
 use Rattle.engine.proofs.ChainSteps.{WithEngine}
@@ -90,16 +90,16 @@ head_shown h rs ws readings_fit writes_fit =
 
 -- The engine.
 
-module _ {S : Type 0} (meaning : S → Meaning) (e : Engine S) (p : ℕ) (within : p < length e.places) where
+module _ (m : Meaning) (e : State) (p : ℕ) (within : p < length e.places) where
   -- the place is free, and notices and store are others
   pub committed :
-      (notices : Notices) (store : S) →
-      engine_of meaning (record e { places = set (set e.places p (get_or e.places p None)) p None; notices = notices; store = store })
-      ≡ model.with_place p None (model.with_store (meaning store) (model.with_notices (notices_of notices) (engine_of meaning e)))
+      (notices : Notices) (store : Meaning) →
+      engine_over store (record e { places = set (set e.places p (get_or e.places p None)) p None; notices = notices })
+      ≡ model.with_place p None (model.with_store store (model.with_notices (notices_of notices) (engine_over m e)))
   committed notices store =
       let E : (ℕ → Option model.Chain) → model.Engine =
-      λ f. record { places = f; caches = (engine_of meaning e).caches; notices = notices_of notices; store = meaning store } in
-      ap (λ ps. engine_of meaning (record e { places = set ps p None; notices = notices; store = store })) (set-get_or e.places p None)
+      λ f. record { places = f; caches = (engine_over m e).caches; notices = notices_of notices; store = store } in
+      ap (λ ps. engine_over store (record e { places = set ps p None; notices = notices })) (set-get_or e.places p None)
       ∙ ap E (item_set (option_map chain_of) None e.places p None within)
 
 -- The step.
@@ -200,11 +200,11 @@ pub has_room :
 has_room n r w c o e = there_is_room n r w c (c.legs n.leg) o e
 
 -- What is known of a call that found the chain at its place.
-module _ {S : Type 0} (meaning : S → Meaning) (depth : ℕ) (e : Engine S) (n : Named) (clock r w : ℕ) (chain : Chain)
+module _ (m : Meaning) (depth : ℕ) (e : State) (n : Named) (clock r w : ℕ) (chain : Chain)
     (no_key : n ≡ naming n.place n.leg not_named) (range : leg_in_range n ≡ true) (within : n.place < length e.places)
     (here : get_or e.places n.place None ≡ Some chain) where
   abbrev before : model.Engine
-  before = engine_of meaning e
+  before = engine_over m e
 
   abbrev of_call : WithEngine Account
   of_call = step_of depth (call.Commit n.place n.leg clock r w) before
@@ -212,14 +212,14 @@ module _ {S : Type 0} (meaning : S → Meaning) (depth : ℕ) (e : Engine S) (n 
   decided :
       commit_made depth n.place n.leg clock (chain_of chain) before (committing_leg (naming n.place n.leg not_named) r w (chain_of chain))
       ≡ of_call
-  decided = commit_is_step depth n.place n.leg clock r w before (chain_of chain) range (stands meaning e n.place within (Some chain) here)
+  decided = commit_is_step depth n.place n.leg clock r w before (chain_of chain) range (stands m e n.place within (Some chain) here)
 
   -- which leg commits, if one does
   found :
       (q : Result OpenLeg EngineFault) (leg : Result model.OpenLeg EngineFault) →
       result_map_both open_leg_of (λ f. f) q ≡ committing_leg n r w (chain_of chain) → result_map_both open_leg_of (λ f. f) q ≡ leg →
       leg ≡ committing_leg (naming n.place n.leg not_named) r w (chain_of chain)
-  found q leg ensured known = sym known ∙ ensured ∙ ap (λ m. committing_leg m r w (chain_of chain)) no_key
+  found q leg ensured known = sym known ∙ ensured ∙ ap (λ k. committing_leg k r w (chain_of chain)) no_key
 
   -- none does
   pub none_commits :

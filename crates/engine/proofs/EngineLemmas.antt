@@ -15,12 +15,12 @@ use Rattle.engine_parts.proofs.ItemLemmas.{item_set, item_there}
 use Rattle.engine_model.specs.Caches as model_caches
 use Rattle.engine_model.specs.Engines as model
 use Rattle.engine.specs.Chains.{chain_of}
-use Rattle.engine.specs.Engines.{engine_of}
+use Rattle.engine.specs.Engines.{engine_over}
 use Rattle.engine.specs.Naming.{in_range_or_refused}
 use Rattle.engine.specs.StepOf.{answer_and_engine}
 use Rattle.engine.specs.Workers.{worker_number}
 use Rattle.engine.specs.declared.chain.Chain.{Chain}
-use Rattle.engine.specs.declared.engine.Engine.{Engine}
+use Rattle.engine.specs.declared.state.State.{State}
 use Rattle.engine.specs.declared.named.Named.{Named}
 use Rattle.engine.specs.declared.worker.Worker.{Worker}
 use Rattle.engine_model.specs.Steps.{StepOutcome, check, with_chain, with_open_leg, chain_fault}
@@ -88,30 +88,30 @@ worker_is n w r x found is = worker_passes n (is_worker w) w r x found is
 
 -- Places.
 
-module _ {S : Type 0} (meaning : S → Meaning) (e : Engine S) (p : ℕ) (within : p < length e.places) where
+module _ (m : Meaning) (e : State) (p : ℕ) (within : p < length e.places) where
   -- what stands at a place
-  pub stands : (o : Option Chain) → get_or e.places p None ≡ o → (engine_of meaning e).places p ≡ option_map chain_of o
+  pub stands : (o : Option Chain) → get_or e.places p None ≡ o → (engine_over m e).places p ≡ option_map chain_of o
   stands o is = item_there (option_map chain_of) None e.places p None within ∙ ap (option_map chain_of) is
 
   -- another chain, or none, stands there
   pub place_set :
       (o : Option Chain) →
-      engine_of meaning (record e { places = set e.places p o }) ≡ model.with_place p (option_map chain_of o) (engine_of meaning e)
+      engine_over m (record e { places = set e.places p o }) ≡ model.with_place p (option_map chain_of o) (engine_over m e)
   place_set o =
       ap
-      (λ f. record { places = f; caches = (engine_of meaning e).caches; notices = (engine_of meaning e).notices; store = (engine_of meaning e).store })
+      (λ f. record { places = f; caches = (engine_over m e).caches; notices = (engine_over m e).notices; store = (engine_over m e).store })
       (item_set (option_map chain_of) None e.places p o within)
 
   -- what a call makes of the chain there, it makes of the engine
   pub called :
       {X : Type 0} (r : Result X EngineFault) (after : Chain) (made : WithChain X) (step : WithEngine X) →
-      IsStepOf (engine_of meaning e) p made step → ◌≡◌ {A = WithChain X} (r, chain_of after) made →
-      ◌≡◌ {A = WithEngine X} (r, engine_of meaning (record e { places = set e.places p (Some after) })) step
+      IsStepOf (engine_over m e) p made step → ◌≡◌ {A = WithChain X} (r, chain_of after) made →
+      ◌≡◌ {A = WithEngine X} (r, engine_over m (record e { places = set e.places p (Some after) })) step
   called {X} r after made step lift is = ap (λ s. let t : WithEngine X = (r, s) in t) (place_set (Some after)) ∙ lift r (chain_of after) is
 
   -- a place that was looked at and left
-  pub left : engine_of meaning (record e { places = set e.places p (get_or e.places p None) }) ≡ engine_of meaning e
-  left = ap (λ ps. engine_of meaning (record e { places = ps })) (set-get_or e.places p None)
+  pub left : engine_over m (record e { places = set e.places p (get_or e.places p None) }) ≡ engine_over m e
+  left = ap (λ ps. engine_over m (record e { places = ps })) (set-get_or e.places p None)
 
 -- An answer, or an engine, in the place of one that is the same.
 
@@ -133,36 +133,36 @@ pub refused_out :
 refused_out {X} s ok r f g next is same failed =
     answered s r (Err g) _ (is ∙ ap Err same) (out_of_range ok g next s failed)
 
-module _ {S : Type 0} (meaning : S → Meaning) (e : Engine S) (p : ℕ) (within : p < length e.places) where
-  nothing_there : get_or e.places p None ≡ None → (engine_of meaning e).places p ≡ None
-  nothing_there none = stands meaning e p within None none
+module _ (m : Meaning) (e : State) (p : ℕ) (within : p < length e.places) where
+  nothing_there : get_or e.places p None ≡ None → (engine_over m e).places p ≡ None
+  nothing_there none = stands m e p within None none
 
   pub refused_missing :
       {X : Type 0} (ok : Bool) (f g h : EngineFault) (l : ℕ) (next : model.Chain → model.OpenLeg → StepOutcome X) → f ≡ h →
       ok ≡ true → get_or e.places p None ≡ None →
       ◌≡◌ {A = WithEngine X}
-      (Err f, engine_of meaning (record e { places = set e.places p (get_or e.places p None) }))
-      (answer_and_engine (engine_of meaning e) (check ok g (with_open_leg ((engine_of meaning e).places p) l h next)))
+      (Err f, engine_over m (record e { places = set e.places p (get_or e.places p None) }))
+      (answer_and_engine (engine_over m e) (check ok g (with_open_leg ((engine_over m e).places p) l h next)))
   refused_missing {X} ok f g h l next same passed none =
-      let s = engine_of meaning e in
-      left_after _ s (Err f) _ (left meaning e p within)
+      let s = engine_over m e in
+      left_after _ s (Err f) _ (left m e p within)
       (answered s (Err f) (Err h) _ (ap Err same) (no_chain ok g (s.places p) l h next s passed (nothing_there none)))
 
   pub refused_at_all :
       {X : Type 0} (ok : Bool) (f g h : EngineFault) (next : model.Chain → StepOutcome X) → f ≡ h → ok ≡ true →
       get_or e.places p None ≡ None →
-      ComesTo (engine_of meaning e) (Err f) (engine_of meaning e) (check ok g (with_chain ((engine_of meaning e).places p) h next))
+      ComesTo (engine_over m e) (Err f) (engine_over m e) (check ok g (with_chain ((engine_over m e).places p) h next))
   refused_at_all {X} ok f g h next same passed none =
-      let s = engine_of meaning e in
+      let s = engine_over m e in
       answered s (Err f) (Err h) _ (ap Err same) (no_chain_at_all ok g (s.places p) h next s passed (nothing_there none))
 
   -- another chain stands there, and the caches are others
   pub read_called :
       (r : Result ℕ EngineFault) (after : Chain) (caches : List Cache) (step : WithEngine ℕ) →
-      ◌≡◌ {A = WithEngine ℕ} (r, with_caches (engine_of meaning e) p (chain_of after, caches_of caches)) step →
-      ◌≡◌ {A = WithEngine ℕ} (r, engine_of meaning (record e { places = set e.places p (Some after); caches = caches })) step
+      ◌≡◌ {A = WithEngine ℕ} (r, with_caches (engine_over m e) p (chain_of after, caches_of caches)) step →
+      ◌≡◌ {A = WithEngine ℕ} (r, engine_over m (record e { places = set e.places p (Some after); caches = caches })) step
   read_called r after caches step is =
-      let s = engine_of meaning e in
+      let s = engine_over m e in
       let E : (ℕ → Option model.Chain) → WithEngine ℕ =
       λ f. (r, record { places = f; caches = caches_of caches; notices = s.notices; store = s.store }) in
       ap E (item_set (option_map chain_of) None e.places p (Some after) within) ∙ is
@@ -179,23 +179,23 @@ taken_place (Some c) e = (c, refl)
 
 -- Caches and notices.
 
-module _ {S : Type 0} (meaning : S → Meaning) (e : Engine S) where
+module _ (m : Meaning) (e : State) where
   pub caches_changed :
       (caches : List Cache) (meant : ℕ → model_caches.Cache) → caches_of caches ≡ meant →
-      engine_of meaning (record e { caches = caches })
+      engine_over m (record e { caches = caches })
       ≡ record {
-        places = (engine_of meaning e).places;
+        places = (engine_over m e).places;
         caches = meant;
-        notices = (engine_of meaning e).notices;
-        store = (engine_of meaning e).store;
+        notices = (engine_over m e).notices;
+        store = (engine_over m e).store;
       }
   caches_changed caches meant same =
-      let s = engine_of meaning e in
+      let s = engine_over m e in
       let E : (ℕ → model_caches.Cache) → model.Engine =
       λ f. record { places = s.places; caches = f; notices = s.notices; store = s.store } in
       ap E same
 
   pub notices_changed :
       (notices : Notices) (meant : model.Notices) → notices_of notices ≡ meant →
-      engine_of meaning (record e { notices = notices }) ≡ model.with_notices meant (engine_of meaning e)
-  notices_changed notices meant same = ap (λ n. model.with_notices n (engine_of meaning e)) same
+      engine_over m (record e { notices = notices }) ≡ model.with_notices meant (engine_over m e)
+  notices_changed notices meant same = ap (λ n. model.with_notices n (engine_over m e)) same

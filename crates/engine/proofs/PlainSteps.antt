@@ -1,14 +1,15 @@
 -- Calls that are refused before they ask their chain, and calls that ask none: their answer, and the engine after it, are
 -- those of the step.
-use Rattle.std.proofs.Common.{◌≡◌, ℕ, Bool, true, false, ◌&&◌, Some, None, Ok, Err, Option, Result, refl}
+use Rattle.std.proofs.Common.{◌≡◌, ℕ, Bool, true, false, ◌&&◌, Some, None, Ok, Err, Option, Result, refl, ap}
 use Rattle.std.specs.List.{slice_get}
 use Rattle.snapshot.specs.Limits.{is_worker, is_place}
 use Rattle.snapshot.specs.Refusals.{not_named, own_fault, unnamed}
 use Rattle.snapshot.specs.declared.fault.EngineFault.{EngineFault}
 use Rattle.snapshot.specs.declared.fault.Layer.TheVariants as layer
 use Rattle.snapshot.specs.declared.fault.Refusal.TheVariants.{PlaceOccupied, NoSuchNotice}
+use Rattle.store.specs.Meaning.{Meaning, after_prune}
 use Rattle.engine_model.specs.Caches.{with_notice}
-use Rattle.engine_model.specs.Engines.{OpenLeg, Chain, new_chain, without_notice, Engine, with_place, with_cache, with_notices}
+use Rattle.engine_model.specs.Engines.{OpenLeg, Chain, new_chain, without_notice, Engine, with_place, with_cache, with_notices, with_store}
 use Rattle.engine_model.specs.Steps.{StepOutcome, check, with_chain, with_open_leg, if_free, or_else, chain_fault}
 use Rattle.engine_model.specs.declared.calls.Call.TheVariants as call
 use Rattle.engine_model.specs.declared.records.Notice.{Notice}
@@ -95,3 +96,10 @@ pub no_notice_to_discard :
     ◌≡◌ {A = WithEngine (Unit {0})} (Err no_notice, s) (step_of depth (call.Discard i) s)
 unfolding or_else
 no_notice_to_discard depth i s none = rw none refl
+
+-- Prune.
+
+pub prune_is_step :
+    (depth h : ℕ) (s : Engine) (store : Meaning) → store ≡ after_prune h s.store →
+    ◌≡◌ {A = WithEngine (Unit {0})} (Ok tt, with_store store s) (step_of depth (call.Prune h) s)
+prune_is_step depth h s store is = let E : Meaning → WithEngine (Unit {0}) = λ m. (Ok tt, with_store m s) in ap E is

@@ -8,4 +8,5 @@ mod leg;
 mod named;
 pub mod perform;
 pub mod run;
+mod state;
 mod worker;

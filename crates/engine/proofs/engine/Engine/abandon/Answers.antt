@@ -1,19 +1,11 @@
-use Rattle.std.proofs.Common.{◌<◌, Some, None, length, arith}
-use Rattle.std.proofs.lemmas.Bool.Decides.{nat_tests}
-use Rattle.engine.specs.Chains.{chain_of}
+use Rattle.engine_model.specs.declared.calls.Call.TheVariants as call
 use Rattle.engine.specs.Engines.{engine_of}
-use Rattle.engine.specs.Naming.{place_in_range}
-use Rattle.engine.proofs.EngineLemmas.{passed, stands, place_set, left_after}
-use Rattle.engine.proofs.PlainSteps.{abandon_is_step}
+use Rattle.engine.proofs.ReplyLemmas.{step_replies}
 use Rattle.engine.proofs.engine.Engine.abandon.Goals as goal
 
-pub returns-in-Some-clause-step : goal.returns-in-Some-clause-step
-returns-in-Some-clause-step g c =
-    let e = c.args.self.now in
-    let p = c.args.place in
-    let s = engine_of g.S.Reads.meaning e in
-    let place = passed place_in_range _ _ _ _ c.place-named.ensures c.check_place.ensures c.in_ok-check_place.was in
-    let within : p < length e.places = grind (arith, nat_tests) in
-    let there = stands g.S.Reads.meaning e p within (Some c.in-Some.field-0) c.in-Some.is in
-    left_after _ _ _ _ (place_set g.S.Reads.meaning e p within None)
-    (abandon_is_step g.S.Store.DEPTH p s (chain_of c.in-Some.field-0) place there)
+pub returns-clause-step : goal.returns-clause-step
+returns-clause-step g c = c.abandon.ensures.step (g.S.Reads.meaning c.args.self.now.store) g.S.Store.DEPTH
+
+pub returns-clause-reply : goal.returns-clause-reply
+returns-clause-reply g c =
+    step_replies g.S.Store.DEPTH (call.Abandon c.args.place) (engine_of g.S.Reads.meaning c.args.self.now) _ _ (returns-clause-step g c)

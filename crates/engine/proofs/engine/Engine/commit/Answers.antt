@@ -1,5 +1,5 @@
 use Rattle.std.proofs.Common.{length, subst}
-use Rattle.engine.specs.Engines.{engine_of}
+use Rattle.engine.specs.Engines.{engine_of, engine_over}
 use Rattle.engine.proofs.CommitLemmas.{IsStepped, commit_replies, commit_law}
 use Rattle.engine.proofs.engine.Engine.commit.Goals as goal
 
@@ -9,8 +9,8 @@ returns-clause-step g c =
     let ws = c.args.writes.now in
     subst
     (λ n. IsStepped g.S.Store.DEPTH n.place n.leg c.args.clock (length rs) (length ws) rs ws (engine_of g.S.Reads.meaning c.args.self.now)
-    c.commit_into.result (c.commit_into.new.readings, c.commit_into.new.writes) (engine_of g.S.Reads.meaning c.commit_into.new.self))
-    c.leg.ensures c.commit_into.ensures.step
+    c.commit_into.result (c.commit_into.new.readings, c.commit_into.new.writes) (engine_over (g.S.Reads.meaning c.commit_into.new.store) c.commit_into.new.self))
+    c.leg-named.ensures c.commit_into.ensures.step
 
 pub returns-clause-reply : goal.returns-clause-reply
 returns-clause-reply g c =

@@ -5,8 +5,8 @@ use Rattle.engine.proofs.engine.Engine.perform.Goals as goal
 
 pub returns-clause-law : goal.returns-clause-law
 returns-clause-law g c =
-    goes_on g.S.Store.DEPTH c.args.call (engine_of g.S.Reads.meaning c.args.self.now) _ _ c.dispatch.ensures.step
+    goes_on g.S.Store.DEPTH c.args.call (engine_of g.S.Reads.meaning c.args.self.now) _ _ c.perform.ensures.step
 
 pub returns-clause-reply : goal.returns-clause-reply
 returns-clause-reply g c =
-    performed_replies g.S.Store.DEPTH c.args.call (engine_of g.S.Reads.meaning c.args.self.now) _ _ c.dispatch.ensures.step
+    performed_replies g.S.Store.DEPTH c.args.call (engine_of g.S.Reads.meaning c.args.self.now) _ _ c.perform.ensures.step

@@ -6,17 +6,17 @@ use Rattle.snapshot.specs.Refusals.{around_store}
 use Rattle.snapshot.specs.declared.fault.Refusal.TheVariants.{NotOpen}
 use Rattle.engine_model.specs.Steps.{account_for, chain_fault}
 use Rattle.engine.specs.Chains.{chain_of}
-use Rattle.engine.specs.Engines.{engine_of}
+use Rattle.engine.specs.Engines.{engine_over}
 use Rattle.engine.specs.Legs.{open_leg_of}
 use Rattle.engine.specs.Naming.{leg_in_range}
 use Rattle.engine.specs.declared.chain.Chain.{Chain}
 use Rattle.engine.proofs.CommitLemmas.{commit_accepted, commit_refused, committed, has_room, none_commits, one_commits}
 use Rattle.engine.proofs.EngineLemmas.{failed, passed, left, refused_out, refused_missing}
-use Rattle.engine.proofs.engine.Engine.commit_into.Goals as goal
+use Rattle.engine.proofs.state.State.commit_into.Goals as goal
 
 pub returns-in_err-check_leg-clause-step : goal.returns-in_err-check_leg-clause-step
 returns-in_err-check_leg-clause-step g c =
-    let s = engine_of g.S.Reads.meaning c.args.self.now in
+    let s = engine_over (g.S.Reads.meaning c.args.store.now) c.args.self.now in
     let out = failed leg_in_range _ _ _ _ c.requires.no_key c.check_leg.ensures c.in_err-check_leg.was in
     let exit = err_from_is_err_and c.from_residual.result c.from_residual.ensures.1 in
     commit_refused g.S.Store.DEPTH c.args.named.place c.args.named.leg c.args.clock c.args.room.readings c.args.room.writes
@@ -29,21 +29,21 @@ returns-in_default-clause-step g c =
     let leg = passed leg_in_range _ _ _ _ c.requires.no_key c.check_leg.ensures c.in_ok-check_leg.was in
     let within : p < length e.places = grind (arith, nat_tests) in
     commit_refused g.S.Store.DEPTH p c.args.named.leg c.args.clock c.args.room.readings c.args.room.writes c.args.readings.now
-    c.args.writes.now (engine_of g.S.Reads.meaning e) _ _ _ _ _ refl refl refl
-    (refused_missing g.S.Reads.meaning e p within _ _ _ _ _ _
+    c.args.writes.now (engine_over (g.S.Reads.meaning c.args.store.now) e) _ _ _ _ _ refl refl refl
+    (refused_missing (g.S.Reads.meaning c.args.store.now) e p within _ _ _ _ _ _
     (c.refused.ensures ∙ ap (λ n. chain_fault n.place n.leg n.key NotOpen) c.requires.no_key) (grind (arith, nat_tests)) c.in_default.is)
 
 pub returns-in_err-leg-clause-step : goal.returns-in_err-leg-clause-step
 returns-in_err-leg-clause-step g c =
     let e = c.args.self.now in
     let n = c.args.named in
-    let m = g.S.Reads.meaning in
+    let m = g.S.Reads.meaning c.args.store.now in
     let depth = g.S.Store.DEPTH in
     let range = passed leg_in_range n n _ _ refl c.check_leg.ensures c.in_ok-check_leg.was in
     let within : n.place < length e.places = grind (arith, nat_tests) in
     let exit = err_from_is_err_and c.from_residual-in_err-leg.result c.from_residual-in_err-leg.ensures.1 in
     commit_refused depth n.place n.leg c.args.clock c.args.room.readings c.args.room.writes c.args.readings.now c.args.writes.now
-    (engine_of m e) _ (engine_of m e) _ _ _ (left m e n.place within) exit.1 exit.2
+    (engine_over m e) _ (engine_over m e) _ _ _ (left m e n.place within) exit.1 exit.2
     (none_commits m depth e n c.args.clock c.args.room.readings c.args.room.writes c.in-Some.chain c.requires.no_key range within
     c.in-Some.is _ _ c.committing_leg.ensures.value c.in_err-leg.was)
 
@@ -61,13 +61,13 @@ pub returns-in-Ok-clause-step : goal.returns-in-Ok-clause-step
 returns-in-Ok-clause-step g c =
     let e = c.args.self.now in
     let n = c.args.named in
-    let m = g.S.Reads.meaning in
+    let m = g.S.Reads.meaning c.args.store.now in
     let depth = g.S.Store.DEPTH in
     let range = passed leg_in_range n n _ _ refl c.check_leg.ensures c.in_ok-check_leg.was in
     let within : n.place < length e.places = grind (arith, nat_tests) in
     commit_accepted depth n.place n.leg c.args.clock c.args.room.readings c.args.room.writes c.args.readings.now c.args.writes.now
-    (engine_of m e) _ _ _ _ (account_for (chain_of c.in-Some.chain) (open_leg_of c.in_ok-leg.leg) c.in-Ok.timestamp)
-    (committed m e n.place within c.give_to_store.new.notices c.give_to_store.new.store) c.account-head.ensures
+    (engine_over m e) _ _ _ _ (account_for (chain_of c.in-Some.chain) (open_leg_of c.in_ok-leg.leg) c.in-Ok.timestamp)
+    (committed m e n.place within c.give_to_store.new.notices (g.S.Reads.meaning c.give_to_store.new.store)) c.account-head.ensures
     (one_commits m depth e n c.args.clock c.args.room.readings c.args.room.writes c.in-Some.chain c.requires.no_key range within
     c.in-Some.is _ _ c.committing_leg.ensures.value c.in_ok-leg.was _ c.as_slice.ensures.value _ _ _ _ c.give_to_store.ensures.made c.in-Ok.is)
 
@@ -75,15 +75,15 @@ pub returns-in-Err-clause-step : goal.returns-in-Err-clause-step
 returns-in-Err-clause-step g c =
     let e = c.args.self.now in
     let n = c.args.named in
-    let m = g.S.Reads.meaning in
+    let m = g.S.Reads.meaning c.args.store.now in
     let depth = g.S.Store.DEPTH in
     let range = passed leg_in_range n n _ _ refl c.check_leg.ensures c.in_ok-check_leg.was in
     let within : n.place < length e.places = grind (arith, nat_tests) in
     let same = λ (places : List (Option Chain)).
-    ap (λ x. engine_of m (record { places = places; caches = e.caches; notices = x; store = c.give_to_store.new.store })) c.in-Err.ensures.notices_unchanged
-    ∙ ap (λ x. engine_of m (record { places = places; caches = e.caches; notices = e.notices; store = x })) c.in-Err.ensures.store_unchanged in
+    ap (λ x. engine_over (g.S.Reads.meaning c.give_to_store.new.store) (record { places = places; caches = e.caches; notices = x })) c.in-Err.ensures.notices_unchanged
+    ∙ ap (λ x. engine_over (g.S.Reads.meaning x) (record { places = places; caches = e.caches; notices = e.notices })) c.in-Err.ensures.store_unchanged in
     commit_refused depth n.place n.leg c.args.clock c.args.room.readings c.args.room.writes c.args.readings.now c.args.writes.now
-    (engine_of m e) _ (engine_of m e) _ _ _ (same _ ∙ left m e n.place within) refl
+    (engine_over m e) _ (engine_over m e) _ _ _ (same _ ∙ left m e n.place within) refl
     (c.refused_by_store.ensures ∙ ap (λ k. around_store c.in-Err.fault k.place k.leg k.key) c.requires.no_key)
     (one_commits m depth e n c.args.clock c.args.room.readings c.args.room.writes c.in-Some.chain c.requires.no_key range within
     c.in-Some.is _ _ c.committing_leg.ensures.value c.in_ok-leg.was _ c.as_slice.ensures.value _ _ _ _ c.give_to_store.ensures.made c.in-Err.is)

@@ -1,0 +1,66 @@
+use Rattle.std.proofs.Common.{◌≡◌, ◌<◌, ◌&&◌, true, Some, Err, length, ap, ◌∙◌, arith}
+use Rattle.std.proofs.lemmas.Bool.Decides.{nat_tests}
+use Rattle.std.proofs.lemmas.Result.{err_from_is_err_and}
+use Rattle.snapshot.specs.Limits.{is_place, is_leg, is_worker}
+use Rattle.snapshot.specs.Refusals.{not_named}
+use Rattle.snapshot.specs.declared.fault.Refusal.TheVariants.{NotOpen}
+use Rattle.engine_model.specs.Steps.{chain_fault}
+use Rattle.engine.specs.Chains.{chain_of}
+use Rattle.engine.specs.ChainCalls.{after_fork}
+use Rattle.engine.specs.Engines.{engine_over}
+use Rattle.engine.specs.Naming.{naming, leg_in_range}
+use Rattle.engine.specs.Workers.{worker_number}
+use Rattle.engine.proofs.EngineLemmas.{failed, passed, no_worker, worker_is, stands, called, refused_out, refused_missing}
+use Rattle.engine.proofs.ChainSteps.{fork_is_step}
+use Rattle.engine.proofs.state.State.fork.Goals as goal
+
+pub returns-in_err-check_leg-clause-step : goal.returns-in_err-check_leg-clause-step
+returns-in_err-check_leg-clause-step c m depth =
+    let out = failed leg_in_range _ _ _ _ c.leg-named.ensures c.check_leg.ensures c.in_err-check_leg.was in
+    let exit = err_from_is_err_and c.from_residual.result c.from_residual.ensures.1 in
+    refused_out _ _ _ _ _ _ (exit.1 ∙ ap Err exit.2) out.1 (grind (arith, nat_tests))
+
+pub returns-in_err-first-clause-step : goal.returns-in_err-first-clause-step
+returns-in_err-first-clause-step c m depth =
+    let out = no_worker _ _ c.args.first_worker _ _ c.leg-named.ensures c.worker.ensures c.in_err-first.was in
+    let exit = err_from_is_err_and c.from_residual-in_err-first.result c.from_residual-in_err-first.ensures.1 in
+    refused_out _ _ _ _ _ _ (exit.1 ∙ ap Err exit.2) out.1 (grind (arith, nat_tests))
+
+pub returns-in_err-second-clause-step : goal.returns-in_err-second-clause-step
+returns-in_err-second-clause-step c m depth =
+    let out = no_worker _ _ c.args.second_worker _ _ c.leg-named.ensures c.worker-2.ensures c.in_err-second.was in
+    let exit = err_from_is_err_and c.from_residual-in_err-second.result c.from_residual-in_err-second.ensures.1 in
+    refused_out _ _ _ _ _ _ (exit.1 ∙ ap Err exit.2) out.1 (grind (arith, nat_tests))
+
+pub returns-in_default-clause-step : goal.returns-in_default-clause-step
+returns-in_default-clause-step c m depth =
+    let e = c.args.self.now in
+    let p = c.args.place in
+    let leg = passed leg_in_range _ _ _ _ c.leg-named.ensures c.check_leg.ensures c.in_ok-check_leg.was in
+    let first = worker_is _ c.args.first_worker _ _ c.worker.ensures c.in_ok-first.was in
+    let second = worker_is _ c.args.second_worker _ _ c.worker-2.ensures c.in_ok-second.was in
+    let within : p < length e.places = grind (arith, nat_tests) in
+    refused_missing m e p within _ _ _ _ _ _
+    (c.refused.ensures ∙ ap (λ n. chain_fault n.place n.leg n.key NotOpen) c.leg-named.ensures) (grind (arith, nat_tests)) c.in_default.is
+
+pub returns-clause-step : goal.returns-clause-step
+returns-clause-step c m depth =
+    let e = c.args.self.now in
+    let p = c.args.place in
+    let l = c.args.leg in
+    let n = naming p l not_named in
+    let chain = c.in-Some.chain in
+    let w = worker_number c.in_ok-first.first in
+    let v = worker_number c.in_ok-second.second in
+    let leg = passed leg_in_range _ _ _ _ c.leg-named.ensures c.check_leg.ensures c.in_ok-check_leg.was in
+    let first = worker_is _ c.args.first_worker _ _ c.worker.ensures c.in_ok-first.was in
+    let second = worker_is _ c.args.second_worker _ _ c.worker-2.ensures c.in_ok-second.was in
+    let range : (is_place p && is_leg l && is_worker c.args.first_worker && is_worker c.args.second_worker) ≡ true = grind (arith, nat_tests) in
+    let within : p < length e.places = grind (arith, nat_tests) in
+    let there = stands m e p within (Some chain) c.in-Some.is in
+    called m e p within c.fork.result c.fork.new.self _ _
+    (fork_is_step depth p l c.args.first_worker c.args.second_worker (engine_over m e) (chain_of chain) range there)
+    (c.fork.ensures.made
+    ∙ ap (λ k. after_fork k w v (chain_of chain)) c.leg-named.ensures
+    ∙ ap (λ x. after_fork n x v (chain_of chain)) first.1
+    ∙ ap (λ x. after_fork n c.args.first_worker x (chain_of chain)) second.1)
