@@ -134,7 +134,13 @@ impl State {
         chain.read(named, &mut self.caches, store)
     }
 
-    pub(crate) fn write(&mut self, place: u8, leg: u8, key: u8, value: u32) -> Result<(), EngineFault>
+    pub(crate) fn write(
+        &mut self,
+        place: u8,
+        leg: u8,
+        key: u8,
+        value: u32,
+    ) -> Result<(), EngineFault>
         ensures step { StepsOverAny (call.Write place leg key value) self.old result self.new }
         ensures unchanged { OnErr result (self.new ≡ self.old) }
     {
