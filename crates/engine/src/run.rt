@@ -33,9 +33,8 @@ pub fn run<S: Store>(
     (engine, done)
 }
 
-// As `run`, on a new engine over a store that is borrowed, which has then taken the commits and the prunes among the calls. What
-// memory was lent to the store is known too: after the calls it holds what the store then means. For want of memory the store
-// is as it was.
+// Performs the calls in order on a new engine over a store that is borrowed, as `run` does. The store then means what the rules
+// make of it by these calls, and memory that was lent to it holds just that. For want of memory the store is left as it was.
 pub fn run_over<S: Store>(
     store: &mut S,
     calls: &[Call],
