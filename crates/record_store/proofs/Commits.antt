@@ -3,7 +3,7 @@
 use Rattle.std.proofs.Common.{◌≡◌, ℕ, ◌+◌, ◌-◌, ◌<◌, ◌≤◌, Bool, true, false, if◌then◌else◌, ◌&&◌, nat_lt, nat_le, List, [], ◌∷◌, ◌++◌, map, length, drop, Some, None, Option, sym, refl, ap, ◌∙◌, subst, arith}
 use Rattle.std.specs.Option.{option_or}
 use Rattle.std.specs.List.{list_all}
-use Rattle.std.proofs.lemmas.Bool.{and_parts, and_from, cond_both, cond-true, cond-false, le-leb, lt-leb}
+use Rattle.std.proofs.lemmas.Bool.{and_parts, and_from, cond_both, cond-true, cond-false, le-leb, lt-leb, ltb-true}
 use Rattle.std.proofs.lemmas.Bool.Decides.{nat_tests}
 use Rattle.std.proofs.lemmas.List.{length-append, length-map}
 use Rattle.snapshot.specs.Limits.{is_key, key_count}
@@ -14,13 +14,13 @@ use Rattle.store.specs.declared.version.Version.{Version}
 use Rattle.records.proofs.Dropping.{same_function}
 use Rattle.records.proofs.Layouts.{all_from, all_left, commit_order, commit_sound, first_kept, first_length, first_order, first_sound, of_key_commit, of_key_prune, order_left, versions_together}
 use Rattle.records.proofs.Remaining.{left_length}
-use Rattle.records.proofs.Totals.{none_total}
+use Rattle.records.proofs.Totals.{none_total, number_within}
 use Rattle.records.specs.Layouts.{are_sound, capacity_for, in_order, record_depth, records_meaning, room_for, shown, sound_record}
 use Rattle.records.specs.PerKeys.{number_for, per_key, total_of}
 use Rattle.records.specs.Records.{after_writes, drop_firsts, excess, first_records, of_key, written}
 use Rattle.records.specs.declared.per_key.PerKey.{PerKey}
 use Rattle.records.specs.declared.record.Record.{Record}
-use Rattle.record_store.proofs.Excesses.{excess_is}
+use Rattle.record_store.proofs.Excesses.{dropped, excess_is, of_keys}
 use Rattle.record_store.specs.Counts.{CountsOf, excess_for}
 
 keyed : (last : ℕ) (rs : List Record) → list_all (sound_record last) rs ≡ true → list_all (λ r. is_key r.key) rs ≡ true
@@ -162,3 +162,31 @@ unfit_pruned h size last rs i =
     let each : (k : ℕ) → P (of_key k (first_records key_count)) = λ k.
     subst P (sym (first_kept k)) (cond_both (is_key k) (version_of 0 0 ∷ []) [] P (λ _. refl) (λ _. refl)) in
     record { last = last; capacity = key_count; kept = λ k. each k i }
+
+-- The same records in memory that is as fit and as large.
+
+pub sound_as : (fit fit' : Bool) (rs rs' : List Record) (last : ℕ) → fit' ≡ fit → rs' ≡ rs → are_sound fit rs last ≡ true → are_sound fit' rs' last ≡ true
+sound_as fit fit' rs rs' last same is sound = ap (λ b. are_sound b rs' last) same ∙ ap (λ xs. are_sound fit xs last) is ∙ sound
+
+pub meaning_as : (fit fit' : Bool) (size size' : ℕ) (rs rs' : List Record) (last : ℕ) → fit' ≡ fit → size' ≡ size → rs' ≡ rs → records_meaning fit' size' rs' last ≡ records_meaning fit size rs last
+meaning_as fit fit' size size' rs rs' last same long is =
+    ap (λ b. records_meaning b size' rs' last) same ∙ ap (λ n. records_meaning fit n rs' last) long ∙ ap (λ xs. records_meaning fit size xs last) is
+
+pub room_as : (fit fit' : Bool) (size size' : ℕ) → fit' ≡ fit → size' ≡ size → room_for fit' size' ≡ room_for fit size
+room_as fit fit' size size' same long = ap (λ b. room_for b size') same ∙ ap (room_for fit) long
+
+-- memory in which there is room for something is fit
+pub fit_where_room : (fit : Bool) (size : ℕ) → 0 < room_for fit size → fit ≡ true
+fit_where_room true size some = refl
+fit_where_room false size some = absurd (omega (arith, some))
+
+-- and where none is dropped, all stay
+pub all_stay : (e : ℕ → ℕ) (rs : List Record) → ((k : ℕ) → e k ≡ 0) → rs ≡ drop_firsts e rs
+all_stay e rs none = sym (drops_none e rs none)
+
+-- where none goes of all keys together, none goes of any
+pub none_goes : (p : PerKey) (ws : List Write) → total_of (λ k. excess_for record_depth (written_to k ws) (number_for p k)) ≡ 0 → (k : ℕ) → excess_for record_depth (written_to k ws) (number_for p k) ≡ 0
+none_goes p ws none k =
+    let all = dropped record_depth ws p in
+    sym (of_keys record_depth ws p k)
+    ∙ cond_both (is_key k) (all k) 0 (λ n. n ≡ 0) (λ key. omega (arith, number_within key_count all k (ltb-true k key_count key), none)) (λ _. refl)

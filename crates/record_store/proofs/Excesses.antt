@@ -40,7 +40,7 @@ excess_written depth (Some y) x n = refl
 abbrev pub dropped : ℕ → List Write → PerKey → ℕ → ℕ
 dropped depth ws counts k = excess_for depth (written_to k ws) (number_for counts k)
 
-of_keys : (depth : ℕ) (ws : List Write) (counts : PerKey) (k : ℕ) → per_key (dropped depth ws counts) k ≡ dropped depth ws counts k
+pub of_keys : (depth : ℕ) (ws : List Write) (counts : PerKey) (k : ℕ) → per_key (dropped depth ws counts) k ≡ dropped depth ws counts k
 of_keys depth ws counts k =
     cond_both (is_key k) (dropped depth ws counts k) 0 (λ n. n ≡ dropped depth ws counts k)
     (λ key. refl)

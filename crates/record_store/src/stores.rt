@@ -101,6 +101,22 @@ impl<M: RecordMemory> RecordStore<M> {
         self.kept = left;
     }
 
+    // Drops of each written key what is too much, so that none has more than the depth once it is written: `excess` versions
+    // together. Where that is none, nothing moves.
+    fn make_room(&mut self, writes: &[Write], excess: usize)
+        requires fit { M.fit self.old.memory ≡ true }
+        requires excess { excess ≡ total_of (λ k. excess_for record_depth (written_to k writes.now) (number_for self.old.counts k)) }
+        ensures left { take self.new.kept (M.records self.new.memory) ≡ drop_firsts (λ k. excess_for record_depth (written_to k writes.now) (number_for self.old.counts k)) (take self.old.kept (M.records self.old.memory)) }
+        ensures size { length (M.records self.new.memory) ≡ length (M.records self.old.memory) }
+        ensures last { self.new.last ≡ self.old.last }
+        ensures same { (M.name self.new.memory ≡ M.name self.old.memory) × (M.fit self.new.memory ≡ M.fit self.old.memory) }
+    {
+        if excess > 0 {
+            let numbers = excess_versions(&self.counts, writes, Self::DEPTH);
+            self.drop_oldest(numbers, excess);
+        }
+    }
+
     // Writes an update for which there is room once the written keys have dropped `excess` versions together.
     fn write(&mut self, update: Update, excess: usize)
         requires later { self.old.last < update.timestamp }
@@ -109,10 +125,7 @@ impl<M: RecordMemory> RecordStore<M> {
         ensures after { memory_meaning M.fit M.records self.new.memory self.new.kept self.new.last ≡ with_writes record_depth update.entry.timestamp update.entry.writes.now (memory_meaning M.fit M.records self.old.memory self.old.kept self.old.last) }
         ensures loan { loan_of M.name M.records M.fit M.held self.new.memory ≡ loan_of M.name M.records M.fit M.held self.old.memory }
     {
-        if excess > 0 {
-            let numbers = excess_versions(&self.counts, update.writes, Self::DEPTH);
-            self.drop_oldest(numbers, excess);
-        }
+        self.make_room(update.writes, excess);
         append(&mut self.memory, self.kept, &mut self.counts, update);
         self.kept += update.writes.len();
         self.last = update.timestamp;

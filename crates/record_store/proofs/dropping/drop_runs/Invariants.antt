@@ -10,7 +10,7 @@ invariant-loop-from g l =
       ran : Ran (number_for l.initial.numbers) (g.M.RecordMemory.records l.initial.memory) l.kept (number_for l.numbers) (g.M.RecordMemory.records l.memory) l.left l.from;
       total : l.total ≡ total_of (number_for l.numbers);
       tidy : g.M.RecordMemory.tidy l.initial.memory l.kept ≡ true → g.M.RecordMemory.tidy l.memory l.kept ≡ true;
-      same : (g.M.RecordMemory.name l.memory ≡ g.M.RecordMemory.name l.initial.memory) × (g.M.RecordMemory.fit l.memory ≡ g.M.RecordMemory.fit l.initial.memory)
+      same : (g.M.RecordMemory.name l.memory ≡ g.M.RecordMemory.name l.initial.memory) × (g.M.RecordMemory.fit l.memory ≡ g.M.RecordMemory.fit l.initial.memory);
     }
 
 abbrev pub decreases-loop-from : goal.decreases-loop-from
