@@ -23,12 +23,11 @@ pub(crate) fn newest_at<M: RecordMemory>(
     ensures { result ≡ newest_at time last (of_key key (take kept (M.records memory.now))) }
 {
     let end = count_up_to(memory, kept, time);
-    let promise = promise_after(memory, end, kept, key, last);
     let found = last_of_key(memory, end, key)?;
     Some(Reading {
         value: found.value,
         timestamp: found.timestamp,
-        promise,
+        promise: promise_after(memory, end, kept, key, last),
     })
 }
 

@@ -117,12 +117,14 @@ module _
     all_late : All (Late time) later
     all_late = All-map (Late time) record_version (filter (has_key k) (drop end (take kept xs))) (All-filter (has_key k) (λ r. time < r.timestamp) (drop end (take kept xs)) late)
 
-    -- the newest version is that of the last record of the key among the first `end`
-    pub newest_is : (last : ℕ) → newest_at time last (of_key k (take kept xs)) ≡ option_map (λ r. reading_of (record_version r) (end_before later last)) (last_or None (filter (has_key k) (take end xs)))
-    newest_is last =
-        ap (newest_at time last) both
-        ∙ newest_both time last earlier later all_late
-        ∙ newest_of time (end_before later last) (filter (has_key k) (take end xs)) (All-filter (has_key k) (λ r. r.timestamp ≤ time) (take end xs) early)
+    -- the newest version is that of the last record of the key among the first `end`, current until the first one after them
+    pub newest_is : (last p : ℕ) (o : Option Record) → p ≡ end_before later last → o ≡ last_or None (filter (has_key k) (take end xs)) → option_map (reading time p) o ≡ newest_at time last (of_key k (take kept xs))
+    newest_is last p o until is =
+        ap (option_map (reading time p)) is
+        ∙ sym (newest_of time p (filter (has_key k) (take end xs)) (All-filter (has_key k) (λ r. r.timestamp ≤ time) (take end xs) early))
+        ∙ ap (λ e. newest_at time e earlier) until
+        ∙ sym (newest_both time last earlier later all_late)
+        ∙ ap (newest_at time last) (sym both)
 
     -- all of the first `end` but the last are outdated
     pub outdated_is : outdated time (of_key k (take kept xs)) ≡ length (of_key k (take end xs)) - 1
