@@ -190,3 +190,17 @@ none_goes p ws none k =
     let all = dropped record_depth ws p in
     sym (of_keys record_depth ws p k)
     ∙ cond_both (is_key k) (all k) 0 (λ n. n ≡ 0) (λ key. omega (arith, number_within key_count all k (ltb-true k key_count key), none)) (λ _. refl)
+
+-- An update that is written after its keys have made room for it.
+module _
+    (p : PerKey) (t : ℕ) (ws : List Write) (fit_ws : fit_writes ws ≡ true) (rs : List Record) (counted : CountsOf p rs) (size last : ℕ) (later : last < t)
+    (sound : are_sound true rs last ≡ true) (rest : List Record) (left : rest ≡ drop_firsts (λ k. excess_for record_depth (written_to k ws) (number_for p k)) rs)
+  where
+    is_left : rest ≡ drop_firsts (dropping t ws fit_ws rs) rs
+    is_left = left ∙ ap (λ f. drop_firsts f rs) (goes p rs ws counted)
+
+    pub left_over : (excess : ℕ) → excess ≡ total_of (λ k. excess_for record_depth (written_to k ws) (number_for p k)) → length rest + excess ≡ length rs
+    left_over excess is = omega (arith, ap length is_left, is ∙ ap total_of (goes p rs ws counted), drops t ws fit_ws rs size last later sound)
+
+    pub is_after : (all : List Record) → all ≡ rest ++ map (written t) ws → all ≡ after_writes record_depth t ws rs
+    is_after all added = added ∙ ap (λ xs. xs ++ map (written t) ws) is_left

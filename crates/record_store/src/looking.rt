@@ -9,8 +9,8 @@ use crate::memory::RecordMemory;
 use records::record::Record;
 use snapshot::account::Reading;
 
-// The newest version of the key that is not later than the time, among the first `kept` records, of which none is later than
-// `last`.
+// The newest version of the key that is not later than the time, among the first `kept` records. If no later one is of the key,
+// it is current up to `last`.
 pub(crate) fn newest_at<M: RecordMemory>(
     memory: &M,
     kept: usize,

@@ -1,7 +1,6 @@
 -- Each record that is looked at decides for those before it, or for those from it on.
-use Rattle.std.proofs.Common.{◌≡◌, ℕ, ◌≤◌, ◌<◌, ◌-◌, ◌+◌, ◌/◌, true, length, take, slice_index_or, subst, sym, arith}
+use Rattle.std.proofs.Common.{◌≤◌, ◌<◌, ◌-◌, ◌+◌, ◌/◌, subst, arith}
 use Rattle.records.proofs.Orders.{none_later, all_later}
-use Rattle.records.specs.Records.{no_record}
 use Rattle.record_store.proofs.looking.count_up_to.Goals as goal
 use Rattle.record_store.proofs.looking.count_up_to.Goals.{then-loop-step-test+else-time-at, else-loop-step-test}
 
@@ -35,7 +34,7 @@ loop-low-init g c =
           record {
             order = omega (arith, low);
             within = known.within;
-            before = λ i below. absurd (omega (arith, low, below, w.loop-step-test.false));
+            before = λ i below. omega (arith, low, below, w.loop-step-test.false);
             after = known.after;
           }
     ]

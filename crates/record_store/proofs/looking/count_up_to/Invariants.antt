@@ -1,5 +1,5 @@
 -- Those from the upper bound on are later than the time, and those below the lower bound are not.
-use Rattle.std.proofs.Common.{◌≡◌, ℕ, ◌≤◌, ◌<◌, ◌-◌, slice_index_or}
+use Rattle.std.proofs.Common.{ℕ, ◌≤◌, ◌<◌, ◌-◌, slice_index_or}
 use Rattle.records.specs.Records.{no_record}
 use Rattle.record_store.proofs.looking.count_up_to.Given as goal
 

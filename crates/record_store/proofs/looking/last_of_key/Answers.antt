@@ -1,5 +1,5 @@
 -- The last one of the key.
-use Rattle.std.proofs.Common.{◌≡◌, None, ap, sym, ◌∙◌, arith}
+use Rattle.std.proofs.Common.{None, ap, sym, ◌∙◌, arith}
 use Rattle.std.specs.List.{last_or}
 use Rattle.records.proofs.Finding.{last_found}
 use Rattle.record_store.proofs.looking.last_of_key.Goals as goal

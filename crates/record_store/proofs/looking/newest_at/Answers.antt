@@ -1,5 +1,5 @@
 -- The last record of the key that is not later decides, and the first later one says up to when it is current.
-use Rattle.std.proofs.Common.{◌≡◌, None, Some, sym, refl, ◌∙◌}
+use Rattle.std.proofs.Common.{None, Some, sym, refl, ◌∙◌}
 use Rattle.records.proofs.Outdated.{newest_is}
 use Rattle.record_store.proofs.looking.newest_at.Goals as goal
 
