@@ -1,16 +1,20 @@
 -- Versions of which the first are not later than a time and the others are: which one is the newest up to it, and how many are
 -- outdated.
-use Rattle.std.proofs.Common.{◌≡◌, ℕ, suc, ◌+◌, ◌-◌, ◌<◌, ◌≤◌, true, false, if◌then◌else◌, ◌||◌, nat_le, List, [], ◌∷◌, ◌++◌, map, length, get_or, take, drop, Some, None, filter, Option, sym, refl, ap, ◌∙◌, subst, arith}
+use Rattle.std.proofs.Common.{◌≡◌, ℕ, suc, ◌+◌, ◌-◌, ◌<◌, ◌≤◌, Bool, true, false, if◌then◌else◌, ◌||◌, nat_le, List, [], ◌∷◌, ◌++◌, map, length, get_or, take, drop, Some, None, filter, Option, sym, refl, ap, ◌∙◌, subst, arith}
 use Rattle.std.specs.List.{All, last_or}
 use Rattle.std.specs.Option.{option_map, option_or}
 use Rattle.std.proofs.lemmas.Bool.{cond-true, cond-false, le-leb, lt-leb}
 use Rattle.std.proofs.lemmas.List.{take-append-drop, take-take, length-drop, length-take-le, get_or-take, get_or-drop}
 use Rattle.std.proofs.lemmas.List.Elements.{All-filter, All-from_get_or, All-map}
+use Rattle.snapshot.specs.Limits.{is_key}
 use Rattle.snapshot.specs.declared.account.Reading.{Reading}
 use Rattle.store.specs.Meaning.{reading_of, end_before, newest_at, some_up_to, outdated}
 use Rattle.store.specs.declared.version.Version.{Version}
+use Rattle.records.proofs.Dropping.{same_function}
 use Rattle.records.proofs.Keys.{of_key_append}
-use Rattle.records.specs.Records.{has_key, no_record, of_key, record_version}
+use Rattle.records.specs.PerKeys.{number_for, per_key}
+use Rattle.records.specs.Records.{drop_firsts, has_key, no_record, of_key, record_version, without_outdated}
+use Rattle.records.specs.declared.per_key.PerKey.{PerKey}
 use Rattle.records.specs.declared.record.Record.{Record}
 
 rest_of : {X : Type 0} (P : X → Type 0) (x : X) (xs : List X) → All P (x ∷ xs) → All P xs
@@ -80,6 +84,10 @@ module _ (time : ℕ) where
       let rest = outdated_both (u ∷ vs) ws (rest_of Early v (u ∷ vs) early) late in
       cond-true (some_up_to time (u ∷ vs ++ ws)) (suc (outdated time (u ∷ vs ++ ws))) 0 some ∙ omega (arith, rest)
 
+one_less_of : (here : Bool) (n : ℕ) → (if here then n else 0) - 1 ≡ (if here then n - 1 else 0)
+one_less_of true n = refl
+one_less_of false n = refl
+
 -- Of the first `kept` of xs the first `end` are not later than the time, and the others are.
 module _
     (xs : List Record) (end kept time : ℕ) (order : end ≤ kept) (within : kept ≤ length xs)
@@ -129,3 +137,18 @@ module _
     -- all of the first `end` but the last are outdated
     pub outdated_is : outdated time (of_key k (take kept xs)) ≡ length (of_key k (take end xs)) - 1
     outdated_is = ap (outdated time) both ∙ outdated_both time earlier later all_early all_late
+
+  -- so each key drops what is outdated where it drops all but the last of its versions among the first `end`
+  module _
+      (counts numbers : PerKey)
+      (counted : (k : ℕ) → number_for counts k ≡ per_key (λ j. length (of_key j (take end xs))) k)
+      (fewer : (k : ℕ) → number_for numbers k ≡ number_for counts k - 1) where
+    pub outdated_numbers : (k : ℕ) → number_for numbers k ≡ per_key (λ j. outdated time (of_key j (take kept xs))) k
+    outdated_numbers k =
+        fewer k
+        ∙ ap (λ n. n - 1) (counted k)
+        ∙ one_less_of (is_key k) (length (of_key k (take end xs)))
+        ∙ ap (λ n. if is_key k then n else 0) (sym (outdated_is k))
+
+    pub outdated_left : drop_firsts (number_for numbers) (take kept xs) ≡ without_outdated time (take kept xs)
+    outdated_left = ap (λ f. drop_firsts f (take kept xs)) (same_function outdated_numbers)
