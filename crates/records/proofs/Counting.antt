@@ -58,11 +58,14 @@ same_numbers p f f' old same k = old k ∙ ap (λ x. if is_key k then x else 0) 
 abbrev pub counted : List Record → ℕ → ℕ
 counted rs k = length (of_key k rs)
 
+-- is no more than that of all records
+pub counted_within : (rs : List Record) (k : ℕ) → per_key (counted rs) k ≤ length rs
+counted_within rs k =
+    let some : counted rs k ≤ length rs = omega (arith, length-map (filter (has_key k) rs) record_version, length-filter (has_key k) rs, count_by-le-length (has_key k) rs) in
+    cond_both (is_key k) (counted rs k) 0 (λ n. n ≤ length rs) (λ _. some) (λ _. omega arith)
+
 pub counted_le : (rs : List Record) (i k : ℕ) → per_key (counted (take i rs)) k ≤ i
-counted_le rs i k =
-    let some : counted (take i rs) k ≤ i =
-    omega (arith, length-map (filter (has_key k) (take i rs)) record_version, length-filter (has_key k) (take i rs), count_by-le-length (has_key k) (take i rs), length-take i rs) in
-    cond_both (is_key k) (counted (take i rs) k) 0 (λ n. n ≤ i) (λ _. some) (λ _. omega arith)
+counted_le rs i k = omega (arith, counted_within (take i rs) k, length-take i rs)
 
 -- at a key the number is that of the function
 pub number_at : (p : PerKey) (f : ℕ → ℕ) (key n : ℕ) → Numbers p f → n ≡ number_for p key → is_key key ≡ true → n ≡ f key

@@ -1,8 +1,8 @@
 -- The numbers of all keys together.
-use Rattle.std.proofs.Common.{◌≡◌, ℕ, zero, suc, ◌+◌, ◌<◌, ◌≤◌, add-one, refl, ap, slice_index, ⊎_elim, arith}
-use Rattle.std.proofs.lemmas.Bool.{cases_eq, cond_both, cond-true, ltb-true}
+use Rattle.std.proofs.Common.{◌≡◌, ℕ, zero, suc, ◌+◌, ◌-◌, ◌<◌, ◌≤◌, ◌==◌, add-one, refl, sym, ap, ◌∙◌, slice_index, ⊎_elim, arith}
+use Rattle.std.proofs.lemmas.Bool.{cases_Bool, cases_eq, cond_both, cond-true, cond-false, eq-eqb, ne_eqb, ltb-true}
 use Rattle.snapshot.specs.Limits.{is_key, key_count}
-use Rattle.records.specs.PerKeys.{number_for, total_below, total_of}
+use Rattle.records.specs.PerKeys.{number_for, one_less, total_below, total_of}
 use Rattle.records.specs.declared.per_key.PerKey.{PerKey}
 
 pub total_none : (f : ℕ → ℕ) → total_below 0 f ≡ 0
@@ -53,3 +53,15 @@ pub none_total : (n : ℕ) (f : ℕ → ℕ) → ((k : ℕ) → f k ≡ 0) → t
 unfolding total_below
 none_total zero f none = refl
 none_total (suc n) f none = omega (arith, none_total n f none, none n)
+
+-- taking one from a key that has some takes one from the total
+pub total_less : (p q : PerKey) (key : ℕ) → 0 < number_for p key → ((k : ℕ) → number_for q k ≡ one_less (number_for p) key k) → total_of (number_for p) ≡ total_of (number_for q) + 1
+total_less p q key some after =
+    let here : number_for q key ≡ number_for p key - 1 = after key ∙ cond-true (key == key) (number_for p key - 1) (number_for p key) (eq-eqb key key refl) in
+    let others : (k : ℕ) → (key ≡ k → ⊥) → number_for q k ≡ number_for p k =
+    λ k ne. after k ∙ cond-false (k == key) (number_for p k - 1) (number_for p k) (ne_eqb k key (λ e. ne (sym e)))
+    in
+    ⊎_elim
+    (λ key_in. omega (arith, total_change key_count (number_for p) (number_for q) key (ltb-true key key_count key_in) others, here))
+    (λ past. absurd (omega (arith, cond-false (is_key key) (slice_index p.numbers key) 0 past)))
+    (cases_Bool (is_key key))
