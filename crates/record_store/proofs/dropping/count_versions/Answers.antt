@@ -1,7 +1,6 @@
 -- No key has more versions than there are records so far, and each record adds one to its key's.
-use Rattle.std.proofs.Common.{◌≡◌, ℕ, ◌+◌, ◌<◌, length, arith, ap, ◌∙◌}
+use Rattle.std.proofs.Common.{◌<◌, length, arith}
 use Rattle.records.proofs.Counting.{counted_le, count_more}
-use Rattle.records.specs.PerKeys.{number_for, with}
 use Rattle.record_store.proofs.dropping.count_versions.Goals as goal
 
 pub overflow_add-get : goal.overflow_add-get
@@ -17,5 +16,5 @@ loop-place-preserved g c =
     let i = c.loop-place.place in
     let within : i < length rs = omega arith in
     count_more rs i within _ _ c.get.result c.loop-place.invariant
-    (c.get.ensures ∙ ap (λ r. number_for c.loop-place.counts r.key) c.at-key.ensures)
-    (λ k. c.set.ensures k ∙ ap (λ r. with (number_for c.loop-place.counts) r.key (c.get.result + 1) k) c.at-key.ensures)
+    (rw (← c.at-key.ensures) c.get.ensures)
+    (λ k. rw (← c.at-key.ensures) (c.set.ensures k))
