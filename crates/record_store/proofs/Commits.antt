@@ -1,9 +1,9 @@
 -- What a new store, a commit and a prune leave of the records that a store of records lists: they are sound, and mean what the
 -- rules say.
-use Rattle.std.proofs.Common.{◌≡◌, ℕ, ◌+◌, ◌-◌, ◌<◌, ◌≤◌, Bool, true, false, if◌then◌else◌, ◌&&◌, nat_lt, nat_le, List, [], ◌∷◌, ◌++◌, map, length, drop, Some, None, Option, sym, refl, ap, ◌∙◌, subst, arith}
+use Rattle.std.proofs.Common.{◌≡◌, ℕ, zero, suc, ◌+◌, ◌-◌, ◌<◌, ◌≤◌, Bool, true, false, if◌then◌else◌, ◌&&◌, nat_lt, nat_le, List, [], ◌∷◌, ◌++◌, map, length, take, drop, Some, None, Option, sym, refl, ap, ◌∙◌, subst, arith}
 use Rattle.std.specs.Option.{option_or}
 use Rattle.std.specs.List.{list_all}
-use Rattle.std.proofs.lemmas.Bool.{and_parts, and_from, cond_both, cond-true, cond-false, le-leb, lt-leb, ltb-true}
+use Rattle.std.proofs.lemmas.Bool.{both_ways, and_parts, and_from, cond_both, cond-true, cond-false, le-leb, lt-leb, ltb-true}
 use Rattle.std.proofs.lemmas.Bool.Decides.{nat_tests}
 use Rattle.std.proofs.lemmas.List.{length-append, length-map}
 use Rattle.snapshot.specs.Limits.{is_key, key_count}
@@ -89,49 +89,49 @@ excess_le (Some x) vs = omega arith
 per_key_le : (f g : ℕ → ℕ) (k : ℕ) → f k ≤ g k → per_key f k ≤ g k
 per_key_le f g k le = cond_both (is_key k) (f k) 0 (λ n. n ≤ g k) (λ _. le) (λ _. omega arith)
 
-module _ (t : ℕ) (ws : List Write) (fit_ws : fit_writes ws ≡ true) (rs : List Record) where
-  abbrev pub dropping : ℕ → ℕ
-  dropping k = per_key (λ j. excess record_depth (written_to j ws) (of_key j rs)) k
+-- what each key drops for these writes, of these records
+abbrev pub dropping : List Write → List Record → ℕ → ℕ
+dropping ws rs k = per_key (λ j. excess record_depth (written_to j ws) (of_key j rs)) k
 
-  after_length : length (after_writes record_depth t ws rs) ≡ length (drop_firsts dropping rs) + length ws
+drops : (ws : List Write) (rs : List Record) (last : ℕ) → are_sound true rs last ≡ true → length (drop_firsts (dropping ws rs) rs) + total_of (dropping ws rs) ≡ length rs
+drops ws rs last sound =
+    left_length (dropping ws rs) rs (keys_in rs last sound)
+    (λ k. per_key_le (λ j. excess record_depth (written_to j ws) (of_key j rs)) (λ j. length (of_key j rs)) k (excess_le (written_to k ws) (of_key k rs)))
+
+-- as many versions as records, in memory that is fit
+module _ (t : ℕ) (ws : List Write) (fit_ws : fit_writes ws ≡ true) (rs : List Record) (size last : ℕ) (later : last < t) (sound : are_sound true rs last ≡ true) where
+  abbrev m : Meaning
+  m = records_meaning true size rs last
+
+  pub after_sound : are_sound true (after_writes record_depth t ws rs) t ≡ true
+  after_sound =
+      and_from (list_all (sound_record t) (after_writes record_depth t ws rs)) (in_order (after_writes record_depth t ws rs))
+      (commit_sound record_depth last t ws rs later (fit_rises ws fit_ws) (sound_records rs last sound))
+      (commit_order record_depth last t ws rs later (fit_rises ws fit_ws) (sound_records rs last sound) (ordered rs last sound))
+
+  pub after_meaning : records_meaning true size (after_writes record_depth t ws rs) t ≡ with_writes record_depth t ws m
+  after_meaning =
+      meaning_at size t (after_writes record_depth t ws rs) (with_writes record_depth t ws m).kept (of_key_commit record_depth t ws rs (omega arith) (fit_rises ws fit_ws))
+
+  after_length : length (after_writes record_depth t ws rs) ≡ length (drop_firsts (dropping ws rs) rs) + length ws
   after_length =
-      length-append (drop_firsts dropping rs) (map (written t) ws)
-      ∙ ap (λ n. length (drop_firsts dropping rs) + n) (length-map ws (written t))
+      length-append (drop_firsts (dropping ws rs) rs) (map (written t) ws)
+      ∙ ap (λ n. length (drop_firsts (dropping ws rs) rs) + n) (length-map ws (written t))
 
-  -- as many versions as records, in memory that is fit
-  module _ (size last : ℕ) (later : last < t) (sound : are_sound true rs last ≡ true) where
-    abbrev m : Meaning
-    m = records_meaning true size rs last
+  versions_after : versions_kept (with_writes record_depth t ws m) ≡ length (after_writes record_depth t ws rs)
+  versions_after =
+      ap versions_kept (sym after_meaning)
+      ∙ versions_together (after_writes record_depth t ws rs) (keys_in (after_writes record_depth t ws rs) t after_sound)
 
-    pub after_sound : are_sound true (after_writes record_depth t ws rs) t ≡ true
-    after_sound =
-        and_from (list_all (sound_record t) (after_writes record_depth t ws rs)) (in_order (after_writes record_depth t ws rs))
-        (commit_sound record_depth last t ws rs later (fit_rises ws fit_ws) (sound_records rs last sound))
-        (commit_order record_depth last t ws rs later (fit_rises ws fit_ws) (sound_records rs last sound) (ordered rs last sound))
-
-    pub after_meaning : records_meaning true size (after_writes record_depth t ws rs) t ≡ with_writes record_depth t ws m
-    after_meaning =
-        meaning_at size t (after_writes record_depth t ws rs) (with_writes record_depth t ws m).kept (of_key_commit record_depth t ws rs (omega arith) (fit_rises ws fit_ws))
-
-    pub drops : length (drop_firsts dropping rs) + total_of dropping ≡ length rs
-    drops =
-        left_length dropping rs (keys_in rs last sound)
-        (λ k. per_key_le (λ j. excess record_depth (written_to j ws) (of_key j rs)) (λ j. length (of_key j rs)) k (excess_le (written_to k ws) (of_key k rs)))
-
-    versions_after : versions_kept (with_writes record_depth t ws m) ≡ length (after_writes record_depth t ws rs)
-    versions_after =
-        ap versions_kept (sym after_meaning)
-        ∙ versions_together (after_writes record_depth t ws rs) (keys_in (after_writes record_depth t ws rs) t after_sound)
-
-    pub fit_room : versions_kept (with_writes record_depth t ws m) ≡ length rs - total_of dropping + length ws
-    fit_room = omega (arith, versions_after, after_length, drops)
+  pub fit_room : versions_kept (with_writes record_depth t ws m) ≡ length rs - total_of (dropping ws rs) + length ws
+  fit_room = omega (arith, versions_after, after_length, drops ws rs last sound)
 
 -- over unfit memory there is no room for a write: a new store has 64 versions already
 pub unfit_full : (t : ℕ) (ws : List Write) (fit_ws : fit_writes ws ≡ true) (size : ℕ) (rs : List Record) (last : ℕ) → last < t → key_count < versions_kept (with_writes record_depth t ws (records_meaning false size rs last))
 unfit_full t ws fit_ws size rs last later =
     let first = first_records key_count in
     let sound = first_are_sound true first last (λ _. refl) in
-    let none = none_total key_count (dropping t ws fit_ws first) (first_excess ws) in
+    let none = none_total key_count (dropping ws first) (first_excess ws) in
     omega (arith, fit_room t ws fit_ws first size last later sound, none, first_length key_count, fit_some ws fit_ws)
 
 -- what goes of each key for a commit, by the numbers of versions
@@ -191,16 +191,43 @@ none_goes p ws none k =
     sym (of_keys record_depth ws p k)
     ∙ cond_both (is_key k) (all k) 0 (λ n. n ≡ 0) (λ key. omega (arith, number_within key_count all k (ltb-true k key_count key), none)) (λ _. refl)
 
--- An update that is written after its keys have made room for it.
+-- What is left where the keys of writes have made room for them.
 module _
-    (p : PerKey) (t : ℕ) (ws : List Write) (fit_ws : fit_writes ws ≡ true) (rs : List Record) (counted : CountsOf p rs) (size last : ℕ) (later : last < t)
-    (sound : are_sound true rs last ≡ true) (rest : List Record) (left : rest ≡ drop_firsts (λ k. excess_for record_depth (written_to k ws) (number_for p k)) rs)
+    (p : PerKey) (ws : List Write) (rs : List Record) (counted : CountsOf p rs) (rest : List Record)
+    (left : rest ≡ drop_firsts (λ k. excess_for record_depth (written_to k ws) (number_for p k)) rs)
   where
-    is_left : rest ≡ drop_firsts (dropping t ws fit_ws rs) rs
+    is_left : rest ≡ drop_firsts (dropping ws rs) rs
     is_left = left ∙ ap (λ f. drop_firsts f rs) (goes p rs ws counted)
 
-    pub left_over : (excess : ℕ) → excess ≡ total_of (λ k. excess_for record_depth (written_to k ws) (number_for p k)) → length rest + excess ≡ length rs
-    left_over excess is = omega (arith, ap length is_left, is ∙ ap total_of (goes p rs ws counted), drops t ws fit_ws rs size last later sound)
+    pub left_over : (excess last : ℕ) → excess ≡ total_of (λ k. excess_for record_depth (written_to k ws) (number_for p k)) → are_sound true rs last ≡ true → length rest + excess ≡ length rs
+    left_over excess last is sound = omega (arith, ap length is_left, is ∙ ap total_of (goes p rs ws counted), drops ws rs last sound)
 
-    pub is_after : (all : List Record) → all ≡ rest ++ map (written t) ws → all ≡ after_writes record_depth t ws rs
-    is_after all added = added ∙ ap (λ xs. xs ++ map (written t) ws) is_left
+    pub is_after : (t : ℕ) (all : List Record) → all ≡ rest ++ map (written t) ws → all ≡ after_writes record_depth t ws rs
+    is_after t all added = added ∙ ap (λ xs. xs ++ map (written t) ws) is_left
+
+-- Whether there is room for an update, by how many records there are and how many go.
+pub room_decides :
+    (fit : Bool) (size : ℕ) (p : PerKey) (rs : List Record) (last t : ℕ) (ws : List Write) → fit_writes ws ≡ true → last < t → are_sound fit rs last ≡ true → CountsOf p rs →
+    (excess : ℕ) → excess ≡ total_of (λ k. excess_for record_depth (written_to k ws) (number_for p k)) →
+    nat_le (versions_kept (with_writes record_depth t ws (records_meaning fit size rs last))) (capacity_for fit size) ≡ nat_le (length ws + (length rs - excess)) (room_for fit size)
+room_decides true size p rs last t ws fit_ws later sound counted excess is =
+    let all = fit_room t ws fit_ws rs size last later sound in
+    let same : versions_kept (with_writes record_depth t ws (records_meaning true size rs last)) ≡ length ws + (length rs - excess) =
+    omega (arith, all, is ∙ ap total_of (goes p rs ws counted)) in
+    ap (λ n. nat_le n size) same
+room_decides false size p rs last t ws fit_ws later sound counted excess is =
+    lt-leb _ key_count (unfit_full t ws fit_ws size rs last later) ∙ sym (lt-leb (length ws + (length rs - excess)) 0 (omega (arith, fit_some ws fit_ws)))
+
+-- and no more go than there are
+pub excess_within : (fit : Bool) (p : PerKey) (rs : List Record) (last : ℕ) (ws : List Write) → are_sound fit rs last ≡ true → (fit ≡ false → rs ≡ []) → CountsOf p rs → total_of (λ k. excess_for record_depth (written_to k ws) (number_for p k)) ≤ length rs
+excess_within true p rs last ws sound unfit counted = omega (arith, drops ws rs last sound, ap total_of (goes p rs ws counted))
+excess_within false p rs last ws sound unfit counted =
+    let none : (k : ℕ) → dropping ws rs k ≡ 0 = λ k.
+    subst (λ xs. dropping ws xs k ≡ 0) (sym (unfit refl)) (cond_both (is_key k) (excess record_depth (written_to k ws) []) 0 (λ n. n ≡ 0) (λ _. no_excess (written_to k ws) [] (omega arith)) (λ _. refl)) in
+    omega (arith, ap total_of (goes p rs ws counted), none_total key_count (dropping ws rs) none)
+
+-- in unfit memory nothing is kept
+pub nothing_unfit : (fit : Bool) (size n : ℕ) (rs : List Record) → n ≤ room_for fit size → fit ≡ false → take n rs ≡ []
+nothing_unfit true size n rs within unfit = absurd (both_ways true unfit refl)
+nothing_unfit false size zero rs within unfit = refl
+nothing_unfit false size (suc n) rs within unfit = absurd (omega (arith, within))

@@ -1,11 +1,12 @@
 // The store of records: a list of records in any memory, with how many there are of each key, and the last timestamp.
-ghost use Rattle.std.specs.Prelude.{◌≡◌, ℕ, ◌+◌, ◌-◌, ◌<◌, ◌≤◌, ◌++◌, true, false, length, map, take, OnErr};
+ghost use Rattle.std.specs.Prelude.{◌≡◌, ℕ, ◌+◌, ◌-◌, ◌<◌, ◌≤◌, ◌++◌, true, false, length, map, take, Ok, IfOk};
+ghost use Rattle.std.specs.Result.{result_and};
 ghost use Rattle.std.proofs.Common.{lit≤};
 ghost use Rattle.snapshot.specs.Limits.{is_key, key_count};
-ghost use Rattle.store.specs.Meaning.{new_store, newest_at, pruned_at, with_writes, written_to};
+ghost use Rattle.store.specs.Meaning.{new_store, newest_at, pruned_at, versions_kept, with_writes, written_to};
 ghost use Rattle.records.specs.Layouts.{Loan, HoldsVersions, are_sound, capacity_for, loan_of, memory_meaning, record_depth, room_for};
 ghost use Rattle.records.specs.PerKeys.{number_for, total_of};
-ghost use Rattle.records.specs.Records.{drop_firsts, written};
+ghost use Rattle.records.specs.Records.{drop_firsts, if_fits};
 ghost use Rattle.record_store.specs.Counts.{CountsOf, excess_for};
 
 use crate::adding::{append, begin};
@@ -86,6 +87,21 @@ impl<M: RecordMemory> RecordStore<M> {
         }
     }
 
+    // How many versions the keys of an update drop together so that none has more than the depth once it is written. Refused
+    // where even then there is no room for it.
+    fn excess(&self, update: Update) -> Result<usize, Fault>
+        requires { self.now.last < update.timestamp }
+        ensures answer { result_and result (Ok tt) ≡ if_fits (versions_kept (with_writes record_depth update.entry.timestamp update.entry.writes.now (memory_meaning M.fit M.records self.now.memory self.now.kept self.now.last))) (memory_meaning M.fit M.records self.now.memory self.now.kept self.now.last).capacity }
+        ensures excess { IfOk result (λ e. e ≡ total_of (λ k. excess_for record_depth (written_to k update.entry.writes.now) (number_for self.now.counts k))) }
+        ensures room { IfOk result (λ e. length update.entry.writes.now + (self.now.kept - e) ≤ room_for (M.fit self.now.memory) (length (M.records self.now.memory))) }
+    {
+        let excess = total_excess(&self.counts, update, Self::DEPTH);
+        if self.room() - (self.kept - excess) < update.writes.len() {
+            return Err(Fault::unnamed(Refusal::CapacityExceeded, Layer::Store));
+        }
+        Ok(excess)
+    }
+
     // Drops of each key its oldest records, so many as are named for it, `total` together.
     fn drop_oldest(&mut self, numbers: PerKey, total: usize)
         requires fit { M.fit self.old.memory ≡ true }
@@ -107,6 +123,7 @@ impl<M: RecordMemory> RecordStore<M> {
         requires fit { M.fit self.old.memory ≡ true }
         requires excess { excess ≡ total_of (λ k. excess_for record_depth (written_to k writes.now) (number_for self.old.counts k)) }
         ensures left { take self.new.kept (M.records self.new.memory) ≡ drop_firsts (λ k. excess_for record_depth (written_to k writes.now) (number_for self.old.counts k)) (take self.old.kept (M.records self.old.memory)) }
+        ensures number { self.new.kept + excess ≡ self.old.kept }
         ensures size { length (M.records self.new.memory) ≡ length (M.records self.old.memory) }
         ensures last { self.new.last ≡ self.old.last }
         ensures same { (M.name self.new.memory ≡ M.name self.old.memory) × (M.fit self.new.memory ≡ M.fit self.old.memory) }
@@ -190,10 +207,7 @@ impl<M: RecordMemory> Store for RecordStore<M> {
 
     fn commit(&mut self, clock: u64, writes: &[Write]) -> Result<u64, Fault> {
         let update = check_commit(clock, writes, self.last)?;
-        let excess = total_excess(&self.counts, update, Self::DEPTH);
-        if self.room() - (self.kept - excess) < writes.len() {
-            return Err(Fault::unnamed(Refusal::CapacityExceeded, Layer::Store));
-        }
+        let excess = self.excess(update)?;
         self.write(update, excess);
         Ok(update.timestamp)
     }

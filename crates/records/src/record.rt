@@ -1,17 +1,17 @@
 // A record of one version.
 
-// One version of one key.
+// One version of one key: in this order of its fields a record takes 16 bytes.
 #[derive(Clone, Copy, PartialEq, Eq, Debug)]
 #[repr(C)]
 pub struct Record {
-    pub key: u8,
     pub timestamp: u64,
     pub value: u32,
+    pub key: u8,
 }
 
 // What stands where there is no record.
 pub const NO_RECORD: Record = Record {
-    key: 0,
     timestamp: 0,
     value: 0,
+    key: 0,
 };
