@@ -13,7 +13,7 @@ use Rattle.store.specs.Meaning.{Meaning, fit_writes, version_of, new_store, newe
 use Rattle.store.specs.declared.version.Version.{Version}
 use Rattle.records.proofs.Dropping.{same_function}
 use Rattle.records.proofs.Layouts.{all_from, all_left, commit_order, commit_sound, first_kept, first_length, first_order, first_sound, of_key_commit, of_key_prune, order_left, versions_together}
-use Rattle.records.proofs.Remaining.{left_length}
+use Rattle.records.proofs.Remaining.{left_length, outdated_within}
 use Rattle.records.proofs.Totals.{none_total, number_within}
 use Rattle.records.specs.Layouts.{are_sound, capacity_for, in_order, record_depth, records_meaning, room_for, shown, sound_record}
 use Rattle.records.specs.PerKeys.{number_for, per_key, total_of}
@@ -154,6 +154,11 @@ module _ (h size last : ℕ) (rs : List Record) (sound : are_sound true rs last 
   pruned_meaning e is =
       meaning_at size last (drop_firsts e rs) (pruned_at h (records_meaning true size rs last)).kept
       (λ k. ap (λ f. of_key k (drop_firsts f rs)) (same_function is) ∙ of_key_prune h rs (keys_in rs last sound) k)
+
+  -- no more than there are
+  pub outdated_total : (e : ℕ → ℕ) → ((k : ℕ) → e k ≡ outdates k) → total_of e ≤ length rs
+  outdated_total e is =
+      omega (arith, ap total_of (same_function is), left_length outdates rs (keys_in rs last sound) (outdated_within h rs))
 
 -- over unfit memory a prune finds nothing to drop
 pub unfit_pruned : (h size last : ℕ) (rs : List Record) → records_meaning false size rs last ≡ pruned_at h (records_meaning false size rs last)
