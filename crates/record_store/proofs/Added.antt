@@ -1,6 +1,6 @@
 -- One record more after the first ones, and the number of its key.
-use Rattle.std.proofs.Common.{◌≡◌, ℕ, ◌+◌, ◌<◌, List, [], ◌∷◌, ◌++◌, length, get_or, take, set, sym, refl, ap, ◌∙◌, subst, arith}
-use Rattle.std.proofs.lemmas.List.{take-set, take_more_set, get_or-set_same, length-set}
+use Rattle.std.proofs.Common.{◌≡◌, ℕ, ◌+◌, ◌<◌, List, [], length, get_or, take, set, sym, refl, ap, ◌∙◌, subst, arith}
+use Rattle.std.proofs.lemmas.List.{take-set, get_or-set_same, length-set}
 use Rattle.std.proofs.lemmas.Bool.{cond_both}
 use Rattle.snapshot.specs.Limits.{is_key}
 use Rattle.records.proofs.Counting.{count_more}

@@ -1,6 +1,6 @@
 -- What a new store, a commit and a prune leave of the records that a store of records lists: they are sound, and mean what the
 -- rules say.
-use Rattle.std.proofs.Common.{◌≡◌, ℕ, zero, suc, ◌+◌, ◌-◌, ◌<◌, ◌≤◌, Bool, true, false, if◌then◌else◌, ◌&&◌, nat_lt, nat_le, List, [], ◌∷◌, ◌++◌, map, length, take, drop, Some, None, Option, sym, refl, ap, ◌∙◌, subst, arith}
+use Rattle.std.proofs.Common.{◌≡◌, ℕ, zero, suc, ◌+◌, ◌-◌, ◌<◌, ◌≤◌, Bool, true, false, if◌then◌else◌, nat_lt, nat_le, List, [], ◌∷◌, ◌++◌, map, length, take, drop, Some, None, Option, sym, refl, ap, ◌∙◌, subst, arith}
 use Rattle.std.specs.Option.{option_or}
 use Rattle.std.specs.List.{list_all}
 use Rattle.std.proofs.lemmas.Bool.{both_ways, and_parts, and_from, cond_both, cond-true, cond-false, le-leb, lt-leb, ltb-true}
@@ -9,13 +9,13 @@ use Rattle.std.proofs.lemmas.List.{length-append, length-map}
 use Rattle.snapshot.specs.Limits.{is_key, key_count}
 use Rattle.snapshot.specs.declared.account.Write.{Write}
 use Rattle.store.proofs.Writes.{fit_rises, fit_some}
-use Rattle.store.specs.Meaning.{Meaning, fit_writes, version_of, new_store, newest_at, pruned_at, reading_of, written_to, with_writes, versions_below, versions_kept, outdated}
+use Rattle.store.specs.Meaning.{Meaning, fit_writes, version_of, new_store, newest_at, pruned_at, reading_of, written_to, with_writes, versions_kept, outdated}
 use Rattle.store.specs.declared.version.Version.{Version}
 use Rattle.records.proofs.Dropping.{same_function}
 use Rattle.records.proofs.Layouts.{all_from, all_left, commit_order, commit_sound, first_kept, first_length, first_order, first_sound, of_key_commit, of_key_prune, order_left, versions_together}
 use Rattle.records.proofs.Remaining.{left_length, outdated_within}
 use Rattle.records.proofs.Totals.{none_total, number_within}
-use Rattle.records.specs.Layouts.{are_sound, capacity_for, in_order, record_depth, records_meaning, room_for, shown, sound_record}
+use Rattle.records.specs.Layouts.{are_sound, capacity_for, in_order, record_depth, records_meaning, room_for, sound_record}
 use Rattle.records.specs.PerKeys.{number_for, per_key, total_of}
 use Rattle.records.specs.Records.{after_writes, drop_firsts, excess, first_records, of_key, written}
 use Rattle.records.specs.declared.per_key.PerKey.{PerKey}

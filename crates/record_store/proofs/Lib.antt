@@ -2,3 +2,4 @@ pub mod Zeros
 pub mod Added
 pub mod Commits
 pub mod Excesses
+pub mod Laying

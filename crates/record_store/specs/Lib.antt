@@ -1,3 +1,4 @@
 pub mod Slices
 pub mod SliceLaws
 pub mod Counts
+pub mod Tables

@@ -8,3 +8,4 @@ mod looking;
 pub mod memory;
 mod slice;
 pub mod stores;
+pub mod table;

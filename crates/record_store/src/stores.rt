@@ -14,7 +14,6 @@ use crate::dropping::{count_versions, drop_runs, excess_versions, total_excess};
 use crate::looking::{count_up_to, newest_at};
 use crate::memory::RecordMemory;
 use records::per_key::PerKey;
-use records::record::Record;
 use snapshot::account::{Reading, Write};
 use snapshot::fault::{Fault, Layer, Refusal};
 use store::checks::{check_commit, check_query};
@@ -25,7 +24,7 @@ use store::update::Update;
 // left alone, and none is kept in it.
 #[derive(Drop)]
 pub struct RecordStore<M: RecordMemory> {
-    memory: M,
+    pub(crate) memory: M,
     kept: usize,
     last: u64,
     counts: PerKey,
@@ -34,9 +33,6 @@ pub struct RecordStore<M: RecordMemory> {
     ghost sound: { are_sound (M.fit memory) (take kept (M.records memory)) last ≡ true },
     ghost counted: { CountsOf counts (take kept (M.records memory)) },
 }
-
-// A store in a slice of records that a caller lends.
-pub type Table<'a> = RecordStore<&'a mut [Record]>;
 
 impl<M: RecordMemory> RecordStore<M> {
     // A new store in this memory. Unfit memory is left alone, and the store in it takes no commit.

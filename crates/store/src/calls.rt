@@ -54,7 +54,7 @@ pub fn run<S: Store>(
     ensures after { MatchResult result (λ _. S.Reads.meaning store.new ≡ after_store_calls S.Store.DEPTH calls.now (S.Reads.meaning store.old)) (λ _. store.new ≡ store.old) }
     ensures succeeds { vec_len answers.old + length calls.now ≤ vec_capacity answers.old → is_ok result ≡ true }
     ensures loan { S.Store.loan store.new ≡ S.Store.loan store.old }
-    ensures memory { OnOk result (S.Store.Holds (S.Store.loan store.old) (after_store_calls S.Store.DEPTH calls.now (S.Reads.meaning store.old)) (S.Store.memory store.new)) }
+    ensures memory { MatchResult result (λ _. S.Store.Holds (S.Store.loan store.old) (after_store_calls S.Store.DEPTH calls.now (S.Reads.meaning store.old)) (S.Store.memory store.new)) (λ _. S.Store.Holds (S.Store.loan store.old) (S.Reads.meaning store.old) (S.Store.memory store.new)) }
     ensures laws { OnOk result (KeepsLaws S.Store.DEPTH calls.now (S.Reads.meaning store.old) (S.Reads.meaning store.new)) }
 {
     answers.reserve(calls.len())?;

@@ -1,4 +1,0 @@
-pub mod Records
-pub mod PerKeys
-pub mod Tables
-pub mod Stores

@@ -1,10 +1,6 @@
-// The table store: versions as records in memory that a caller lends, oldest first. The rules for a list of records are
-// written once, for every memory that can hold such a list.
+// The table store: the store of records over a slice that a caller lends, and lists of calls on one.
 #![tactic(auto)]
 
-pub mod as_store;
-mod log;
-mod per_key;
 pub mod record;
-mod slice;
+pub mod runs;
 pub mod table;

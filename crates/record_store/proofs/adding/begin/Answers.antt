@@ -1,5 +1,5 @@
 -- The list means a new store, in fit memory and in other memory.
-use Rattle.std.proofs.Common.{◌≡◌, true, false, length, take, sym, ap, ◌∙◌, rules}
+use Rattle.std.proofs.Common.{◌≡◌, false, length, take, ap, ◌∙◌, rules}
 use Rattle.std.proofs.lemmas.Bool.{both_ways}
 use Rattle.store.specs.Meaning.{new_store}
 use Rattle.records.specs.Layouts.{capacity_for}

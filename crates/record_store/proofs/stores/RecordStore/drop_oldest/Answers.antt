@@ -1,5 +1,5 @@
 -- What stays is sound, and its numbers are those that are left.
-use Rattle.std.proofs.Common.{◌≡◌, ◌≤◌, true, length, take, sym, ap, subst, ◌∙◌, arith}
+use Rattle.std.proofs.Common.{◌≡◌, true, take, sym, subst, ◌∙◌, arith}
 use Rattle.records.proofs.Remaining.{left_counts}
 use Rattle.records.specs.Layouts.{are_sound}
 use Rattle.records.specs.PerKeys.{number_for}

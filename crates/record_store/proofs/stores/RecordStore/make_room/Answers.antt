@@ -1,5 +1,5 @@
 -- Where none is too many, all stay.
-use Rattle.std.proofs.Common.{◌≡◌, ◌+◌, ◌≤◌, true, length, take, ap, ◌∙◌, subst, arith}
+use Rattle.std.proofs.Common.{◌≡◌, ◌+◌, true, length, take, ap, ◌∙◌, subst, arith}
 use Rattle.std.proofs.lemmas.List.{length-take-le}
 use Rattle.store.specs.Meaning.{written_to}
 use Rattle.records.proofs.Capacities.{room_le}

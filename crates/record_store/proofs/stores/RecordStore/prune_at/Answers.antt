@@ -1,7 +1,6 @@
 -- Each key drops what is outdated, or nothing is.
-use Rattle.std.proofs.Common.{◌≡◌, ◌<◌, ◌≤◌, true, length, take, sym, refl, ap, subst, ◌∙◌, arith}
+use Rattle.std.proofs.Common.{◌≡◌, ◌≤◌, true, length, take, sym, refl, ap, subst, ◌∙◌, arith}
 use Rattle.std.proofs.lemmas.List.{length-take-le}
-use Rattle.snapshot.specs.Limits.{most_records}
 use Rattle.store.specs.Meaning.{pruned_at}
 use Rattle.records.proofs.Capacities.{room_le}
 use Rattle.records.proofs.Outdated.{outdated_numbers}

@@ -1,5 +1,5 @@
 -- There is room, and the records are those that a commit leaves.
-use Rattle.std.proofs.Common.{◌≡◌, ◌≤◌, true, length, take, sym, refl, ap, subst, ◌∙◌, arith}
+use Rattle.std.proofs.Common.{◌≡◌, true, length, take, sym, refl, ap, subst, ◌∙◌, arith}
 use Rattle.store.proofs.Writes.{fit_some}
 use Rattle.store.specs.Meaning.{with_writes}
 use Rattle.records.proofs.Capacities.{room_le}
