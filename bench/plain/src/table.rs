@@ -1,0 +1,144 @@
+//! The table store: up to 16 versions of a key, in memory of 64 to 1,024 records that a caller lends.
+
+use crate::account::Reading;
+use crate::fault::Refusal;
+use crate::store::{Store, issue};
+use crate::write_set::WriteSet;
+use crate::{KEYS, LEAST_RECORDS, MOST_RECORDS};
+
+#[derive(Clone, Copy, Default, PartialEq, Eq, Debug)]
+pub struct Record {
+    pub key: u8,
+    pub timestamp: u64,
+    pub value: u32,
+}
+
+const DEPTH: u8 = 16;
+
+/// The kept versions lie from the start by timestamp, then key, and zeros after them. In unfit memory, which is left alone,
+/// each key has its first version.
+pub struct Table<'a> {
+    memory: &'a mut [Record],
+    kept: usize,
+    last: u64,
+    /// How many versions of each key are kept.
+    counts: [u8; KEYS as usize],
+}
+
+fn is_fit(memory: &[Record]) -> bool {
+    (LEAST_RECORDS..=MOST_RECORDS).contains(&memory.len())
+}
+
+impl<'a> Table<'a> {
+    pub fn check(memory: &[Record]) -> Result<(), Refusal> {
+        if is_fit(memory) { Ok(()) } else { Err(Refusal::UnfitMemory) }
+    }
+
+    pub fn new(memory: &'a mut [Record]) -> Self {
+        let mut kept = 0;
+        if is_fit(memory) {
+            memory.fill(Record::default());
+            for (key, record) in (0..KEYS).zip(&mut *memory) {
+                record.key = key;
+            }
+            kept = usize::from(KEYS);
+        }
+        Self { memory, kept, last: 0, counts: [1; KEYS as usize] }
+    }
+
+    pub fn records(&self) -> &[Record] {
+        self.memory
+    }
+
+    /// Drops the oldest record of each of these keys, of which each has one, and moves the runs between them down.
+    fn drop_oldest(&mut self, mut keys: u64) {
+        let (mut to, mut run) = (0, 0);
+        for place in 0..self.kept {
+            let bit = 1 << (self.memory[place].key & 63);
+            if keys & bit != 0 {
+                if to != run {
+                    self.memory.copy_within(run..place, to);
+                }
+                to += place - run;
+                run = place + 1;
+                keys ^= bit;
+                if keys == 0 {
+                    break;
+                }
+            }
+        }
+        self.memory.copy_within(run..self.kept, to);
+        self.kept = to + self.kept - run;
+    }
+}
+
+impl Store for Table<'_> {
+    fn version(&self, key: u8, time: u64) -> Result<Reading, Refusal> {
+        let kept = &self.memory[..self.kept];
+        if kept.is_empty() {
+            return Ok(Reading { value: 0, timestamp: 0, promise: self.last });
+        }
+        if time >= self.last {
+            let newest = kept.iter().rev().find(|record| record.key == key).ok_or(Refusal::VersionGone)?;
+            return Ok(Reading { value: newest.value, timestamp: newest.timestamp, promise: self.last });
+        }
+        let (until, after) = kept.split_at(kept.partition_point(|record| record.timestamp <= time));
+        let newest = until.iter().rev().find(|record| record.key == key).ok_or(Refusal::VersionGone)?;
+        let next = after.iter().find(|record| record.key == key);
+        let promise = next.map_or(self.last, |record| record.timestamp - 1);
+        Ok(Reading { value: newest.value, timestamp: newest.timestamp, promise })
+    }
+
+    fn commit(&mut self, clock: u64, writes: &WriteSet) -> Result<u64, Refusal> {
+        let timestamp = issue(clock, self.last)?;
+        let mut full = 0;
+        let mut dropped = 0;
+        for write in writes.iter() {
+            if self.counts[usize::from(write.key)] == DEPTH {
+                full |= 1 << write.key;
+                dropped += 1;
+            }
+        }
+        let room = if self.kept == 0 { 0 } else { self.memory.len() };
+        if self.kept - dropped.min(self.kept) + writes.len() > room {
+            return Err(Refusal::CapacityExceeded);
+        }
+        if full != 0 {
+            self.drop_oldest(full);
+        }
+        for (write, record) in writes.iter().zip(&mut self.memory[self.kept..]) {
+            *record = Record { key: write.key, timestamp, value: write.value };
+            let count = &mut self.counts[usize::from(write.key)];
+            *count = (*count + 1).min(DEPTH);
+        }
+        self.kept += writes.len();
+        self.last = timestamp;
+        Ok(timestamp)
+    }
+
+    fn prune(&mut self, horizon: u64) {
+        let horizon = horizon.min(self.last);
+        let until = self.memory[..self.kept].partition_point(|record| record.timestamp <= horizon);
+        // from the newest end: the first record of a key stays, and those that stay move up
+        let mut seen: u64 = 0;
+        let mut to = until;
+        for place in (0..until).rev() {
+            let record = self.memory[place];
+            let key = record.key & 63;
+            if seen >> key & 1 == 0 {
+                seen |= 1 << key;
+                to -= 1;
+                if to != place {
+                    self.memory[to] = record;
+                }
+            } else {
+                self.counts[usize::from(key)] -= 1;
+            }
+        }
+        if to != 0 {
+            self.memory.copy_within(to..self.kept, 0);
+            self.memory[self.kept - to..self.kept].fill(Record::default());
+            self.kept -= to;
+        }
+    }
+}
