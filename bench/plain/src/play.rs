@@ -50,7 +50,8 @@ impl<'a> Player<'a> {
         if let Some(memory) = self.memory.take() {
             self.engine = Some(AnyEngine::Table(Engine::new(Table::new(memory))));
         }
-        put_call(out, call);
+        put_request(out, call);
+        out.extend_from_slice(b" -> ");
         match &mut self.engine {
             Some(AnyEngine::Newest(engine)) => make(engine, call, &mut self.lists, out),
             Some(AnyEngine::Table(engine)) => make(engine, call, &mut self.lists, out),
@@ -147,7 +148,8 @@ fn make<S: Store>(engine: &mut Engine<S>, call: &Call, lists: &mut Lists, out: &
     Ok(())
 }
 
-fn put_call(out: &mut Vec<u8>, call: &Call) {
+/// The call's word and numbers.
+pub fn put_request(out: &mut Vec<u8>, call: &Call) {
     let bytes = |out: &mut Vec<u8>, word: &[u8], numbers: &[u8]| {
         out.extend_from_slice(word);
         for &number in numbers {
@@ -178,7 +180,6 @@ fn put_call(out: &mut Vec<u8>, call: &Call) {
         Call::Count => out.extend_from_slice(b"count"),
         Call::Prune { horizon } => put_words(out, b"prune", &[horizon]),
     }
-    out.extend_from_slice(b" -> ");
 }
 
 fn put_fault(out: &mut Vec<u8>, fault: Fault) {
