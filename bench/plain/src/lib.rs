@@ -9,6 +9,7 @@ pub mod chain;
 pub mod chance;
 pub mod engine;
 pub mod fault;
+pub mod lives;
 pub mod mixes;
 pub mod notices;
 pub mod play;
