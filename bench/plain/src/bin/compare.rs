@@ -45,6 +45,7 @@ fn shortened(program: &str, script: &[u8]) -> Result<Vec<u8>, String> {
     let mut lines: Vec<&[u8]> = script.split_inclusive(|&byte| byte == b'\n').collect();
     let mut size = lines.len().div_ceil(2);
     while size > 0 {
+        let before = lines.len();
         let mut start = 0;
         while start < lines.len() {
             let mut fewer = lines.clone();
@@ -55,7 +56,11 @@ fn shortened(program: &str, script: &[u8]) -> Result<Vec<u8>, String> {
                 start += size;
             }
         }
-        size = if size == 1 { 0 } else { size.div_ceil(2) };
+        // single lines are tried until none can go
+        size = match size {
+            1 if lines.len() == before => 0,
+            size => size.div_ceil(2),
+        };
     }
     Ok(lines.concat())
 }
