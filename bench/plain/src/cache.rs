@@ -43,12 +43,7 @@ impl Cache {
 
     /// The entry that answers a leg with this interval, which becomes the latest used; else what is asked of `ask`, as far as
     /// the cache keeps it.
-    pub fn read<E>(
-        &mut self,
-        key: u8,
-        interval: Interval,
-        ask: impl FnOnce() -> Result<Reading, E>,
-    ) -> Result<Reading, E> {
+    pub fn read<E>(&mut self, key: u8, interval: Interval, ask: impl FnOnce() -> Result<Reading, E>) -> Result<Reading, E> {
         if let Some(place) = self.place_of(key) {
             let entry = self.readings[place];
             if interval.meets(&entry) {

@@ -124,12 +124,7 @@ impl Chain {
         writes.write(named.key, value).map_err(|refusal| named.refused(refusal))
     }
 
-    pub fn read<S: Store>(
-        &mut self,
-        named: Named,
-        caches: &mut [Cache; WORKERS as usize],
-        store: &S,
-    ) -> Result<u32, Fault> {
+    pub fn read<S: Store>(&mut self, named: Named, caches: &mut [Cache; WORKERS as usize], store: &S) -> Result<u32, Fault> {
         self.check_open(named)?;
         let Named { leg: number, key, .. } = named;
         let leg = &mut self.legs[usize::from(number)];
@@ -138,10 +133,8 @@ impl Chain {
         }
         let read = usize::from(self.read);
         if leg.read >> key & 1 == 1 {
-            let own = self.readings[..read]
-                .iter()
-                .zip(&self.read_by)
-                .find(|&(reading, &by)| reading.key == key && by == number);
+            let own =
+                self.readings[..read].iter().zip(&self.read_by).find(|&(reading, &by)| reading.key == key && by == number);
             if let Some((reading, _)) = own {
                 return Ok(reading.value);
             }
@@ -156,13 +149,8 @@ impl Chain {
             .map_err(|refusal| named.refused_by(Layer::Store, refusal))?;
         leg.interval = interval.narrow(reading.timestamp, reading.promise);
         leg.read |= 1 << key;
-        self.readings[read] = ChainReading {
-            worker,
-            key,
-            value: reading.value,
-            timestamp: reading.timestamp,
-            promise: reading.promise,
-        };
+        self.readings[read] =
+            ChainReading { worker, key, value: reading.value, timestamp: reading.timestamp, promise: reading.promise };
         self.read_by[read] = number;
         self.read += 1;
         Ok(reading.value)

@@ -15,13 +15,8 @@ pub struct Engine<S> {
     store: S,
 }
 
-const NO_SUCH_NOTICE: Fault = Fault {
-    refusal: Refusal::NoSuchNotice,
-    layer: Layer::Notices,
-    place: NOT_NAMED,
-    leg: NOT_NAMED,
-    key: NOT_NAMED,
-};
+const NO_SUCH_NOTICE: Fault =
+    Fault { refusal: Refusal::NoSuchNotice, layer: Layer::Notices, place: NOT_NAMED, leg: NOT_NAMED, key: NOT_NAMED };
 
 fn check(named: Named, in_range: bool) -> Result<(), Fault> {
     if in_range { Ok(()) } else { Err(named.refused(Refusal::OutOfRange)) }
@@ -109,10 +104,8 @@ impl<S: Store> Engine<S> {
         let committing = chain.committing(named, room.0, room.1)?;
         let mut timestamp = 0;
         if !committing.writes.is_empty() {
-            timestamp = self
-                .store
-                .commit(clock, &committing.writes)
-                .map_err(|refusal| named.refused_by(Layer::Store, refusal))?;
+            timestamp =
+                self.store.commit(clock, &committing.writes).map_err(|refusal| named.refused_by(Layer::Store, refusal))?;
             self.notices.raise_for(&self.caches, &committing.writes, timestamp);
         }
         let head = chain.account(committing, timestamp, readings, writes);

@@ -306,6 +306,85 @@ fn step(list: &mut List, place: u8, open: &mut Open) {
     }
 }
 
+/// Short chains over and over, so many of each kind, which show what a call costs.
+pub fn short_chains(count: usize) -> Vec<Mix> {
+    let makers: [(&str, fn(&mut List)); 11] = [
+        ("begin, abandon", |list| {
+            list.begin(0, 0);
+            list.abandon(0);
+        }),
+        ("begin, 15 hands, abandon", |list| {
+            list.begin(0, 0);
+            for leg in 0..15 {
+                let _ = list.hand(0, leg, 1);
+            }
+            list.abandon(0);
+        }),
+        ("begin, 7 forks, abandon", |list| {
+            list.begin(0, 0);
+            for leg in 0..7 {
+                let _ = list.fork(0, leg, 1, 2);
+            }
+            list.abandon(0);
+        }),
+        ("begin, 5 forks and joins, abandon", |list| {
+            list.begin(0, 0);
+            for leg in [0, 3, 6, 9, 12] {
+                let _ = list.fork(0, leg, 1, 2);
+                let _ = list.join(0, leg + 1, leg + 2, 3);
+            }
+            list.abandon(0);
+        }),
+        ("begin, 8 writes in falling order, abandon", |list| {
+            list.begin(0, 0);
+            for key in (0..8).rev() {
+                list.write(0, 0, key);
+            }
+            list.abandon(0);
+        }),
+        ("begin, 32 reads of two cached keys, abandon", |list| {
+            list.begin(0, 0);
+            for key in 0..32 {
+                list.read(0, 0, key % 2);
+            }
+            list.abandon(0);
+        }),
+        ("begin, 8 reads from the cache, abandon", |list| {
+            list.begin(0, 0);
+            for key in 0..8 {
+                list.read(0, 0, key);
+            }
+            list.abandon(0);
+        }),
+        ("begin, 32 reads from the store, abandon", |list| {
+            list.begin(0, 0);
+            for key in 0..32 {
+                list.read(0, 0, key);
+            }
+            list.abandon(0);
+        }),
+        ("begin, 32 reads from the store, commit", |list| {
+            list.begin(0, 0);
+            for key in 0..32 {
+                list.read(0, 0, key);
+            }
+            list.commit(0, 0);
+        }),
+        ("begin, a write, commit", |list| list.write_keys(0, 0, [5])),
+        ("begin, 8 writes, commit", |list| list.write_keys(0, 0, 0..8)),
+    ];
+    makers
+        .into_iter()
+        .map(|(name, more)| {
+            let mut list = List::new(4);
+            for _ in 0..count {
+                more(&mut list);
+            }
+            Mix { name, calls: list.calls }
+        })
+        .collect()
+}
+
 /// What fills a table with `keys` keys at their depth, and one version of each other key.
 pub fn filling(keys: u8) -> Vec<NumberedCall> {
     let mut list = List::new(3);

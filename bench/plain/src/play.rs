@@ -90,10 +90,9 @@ fn play_store<'a>(kind: StoreKind, memory: &'a mut Memory, out: &mut Vec<u8>) ->
             let memory = &mut memory[..records];
             match Table::check(memory) {
                 Ok(()) => out.extend_from_slice(b"done"),
-                Err(refusal) => put_fault(
-                    out,
-                    Fault { refusal, layer: Layer::Store, place: NOT_NAMED, leg: NOT_NAMED, key: NOT_NAMED },
-                ),
+                Err(refusal) => {
+                    put_fault(out, Fault { refusal, layer: Layer::Store, place: NOT_NAMED, leg: NOT_NAMED, key: NOT_NAMED })
+                }
             }
             out.push(b'\n');
             AnyEngine::Table(Engine::new(Table::new(memory)))
@@ -209,10 +208,7 @@ fn put_account(out: &mut Vec<u8>, head: &AccountHead, readings: &[ChainReading],
     let mut buffer = [0; LONGEST_ACCOUNT];
     match write_account(head, readings, writes, &mut buffer) {
         Ok(size) => put_hexadecimal(out, &buffer[..size]),
-        Err(refusal) => put_fault(
-            out,
-            Fault { refusal, layer: Layer::Book, place: NOT_NAMED, leg: NOT_NAMED, key: NOT_NAMED },
-        ),
+        Err(refusal) => put_fault(out, Fault { refusal, layer: Layer::Book, place: NOT_NAMED, leg: NOT_NAMED, key: NOT_NAMED }),
     }
 }
 

@@ -47,11 +47,7 @@ impl Default for Newest {
 impl Store for Newest {
     fn version(&self, key: u8, time: u64) -> Result<Reading, Refusal> {
         let Version { value, timestamp } = self.versions[usize::from(key)];
-        if timestamp <= time {
-            Ok(Reading { value, timestamp, promise: self.last })
-        } else {
-            Err(Refusal::VersionGone)
-        }
+        if timestamp <= time { Ok(Reading { value, timestamp, promise: self.last }) } else { Err(Refusal::VersionGone) }
     }
 
     fn commit(&mut self, clock: u64, writes: &WriteSet) -> Result<u64, Refusal> {

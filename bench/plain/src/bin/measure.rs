@@ -3,15 +3,15 @@
 //! usage: measure CONTROL_ROOM PLAIN_CONTROL_ROOM FOLDER     the two programs, and a folder for what they print
 
 use plain::calls::{NumberedCall, calls_on_newest, calls_on_table};
-use plain::mixes::{book, commits, filling, mixes, script, store_reads};
+use plain::mixes::{Mix, book, commits, filling, mixes, script, short_chains, store_reads};
 use plain::{KEYS, MOST_RECORDS};
 use std::ffi::c_int;
 use std::fs::File;
 use std::path::Path;
 use std::process::{Command, ExitCode, Stdio};
 
-const CALLS: usize = 60_000;
-const TIMES: usize = 15;
+const CALLS: usize = 30_000;
+const TIMES: usize = 41;
 
 #[link(name = "bench_calls", kind = "static")]
 unsafe extern "C" {
@@ -121,12 +121,7 @@ fn print_mixes() -> Result<(), String> {
     println!("mix                    proved    plain  ratio      proved    plain  ratio     calls");
     for mix in mixes(CALLS) {
         let calls = &mix.calls;
-        let table = measured(
-            mix.name,
-            TIMES,
-            || proved_on_table(MOST_RECORDS, calls),
-            || calls_on_table(MOST_RECORDS, calls),
-        )?;
+        let table = measured(mix.name, TIMES, || proved_on_table(MOST_RECORDS, calls), || calls_on_table(MOST_RECORDS, calls))?;
         let newest = measured(mix.name, TIMES, || proved_on_newest(calls), || calls_on_newest(calls))?;
         let count = calls.len();
         println!("{:<18} {}    {}    {count:>6}", mix.name, cell(table, count), cell(newest, count));
@@ -160,12 +155,27 @@ fn print_growth() -> Result<(), String> {
     Ok(())
 }
 
+fn print_short_chains() -> Result<(), String> {
+    const CHAINS: usize = 1_000;
+    println!("nanoseconds a chain, over the newest store           proved    plain  ratio");
+    for Mix { name, calls } in short_chains(CHAINS) {
+        let times = measured(name, TIMES, || proved_on_newest(&calls), || calls_on_newest(&calls))?;
+        println!("  {name:<48} {}", cell(times, CHAINS));
+    }
+    Ok(())
+}
+
 fn print_book() -> Result<(), String> {
     const MOST_BYTES: usize = 65_536;
     let book = book(MOST_BYTES);
     let times = measured("book", 200, || proved_read_book(&book), || plain::book::read_book(&book))?;
     println!("reading a book of {} bytes, nanoseconds a byte:", book.len());
-    println!("  proved {:.3}  plain {:.3}  ratio {:.2}", times.proved / book.len() as f64, times.plain / book.len() as f64, times.ratio());
+    println!(
+        "  proved {:.3}  plain {:.3}  ratio {:.2}",
+        times.proved / book.len() as f64,
+        times.plain / book.len() as f64,
+        times.ratio()
+    );
     Ok(())
 }
 
@@ -219,11 +229,15 @@ fn print_all() -> Result<(), String> {
     let [proved, plain, folder] = &arguments[..] else {
         return Err("usage: measure CONTROL_ROOM PLAIN_CONTROL_ROOM FOLDER".to_string());
     };
-    println!("processor time, the shortest of {TIMES} runs of each side in turn; ratio: the plain time divided by the proved one");
+    println!(
+        "processor time, the shortest of {TIMES} runs of each side in turn; ratio: the plain time divided by the proved one"
+    );
     println!();
     print_mixes()?;
     println!();
     print_growth()?;
+    println!();
+    print_short_chains()?;
     println!();
     print_book()?;
     println!();
