@@ -131,10 +131,10 @@ pub fn read_account(
     Ok((head, start + size))
 }
 
-/// Reads account after account, to the end of the book or to the first one that is refused, and sums their numbers, as the
-/// crate `bench_calls` does.
-#[inline(never)]
-pub fn read_book(book: &[u8]) -> u64 {
+/// Reads account after account, to the end of the book or to the first one that is refused, whose refusal and place it answers;
+/// and sums their numbers.
+#[inline(always)]
+pub fn read_accounts(book: &[u8]) -> (u64, Option<(Refusal, usize)>) {
     let mut readings = [ChainReading::default(); CHAIN_READINGS];
     let mut writes = [Write::default(); WRITE_KEYS];
     let mut sum: u64 = 0;
@@ -145,8 +145,16 @@ pub fn read_book(book: &[u8]) -> u64 {
                 sum = sum.wrapping_add(sum_of_account(head, &readings, &writes));
                 start = end;
             }
-            Err(refusal) => return sum.wrapping_add(u64::from(refusal.number())).wrapping_add(start as u64),
+            Err(refusal) => return (sum, Some((refusal, start))),
         }
     }
-    sum
+    (sum, None)
+}
+
+/// The sum of all that is read, as the crate `bench_calls` has it.
+#[inline(never)]
+pub fn read_book(book: &[u8]) -> u64 {
+    let (sum, ending) = read_accounts(book);
+    let of_ending = ending.map_or(0, |(refusal, start)| u64::from(refusal.number()).wrapping_add(start as u64));
+    sum.wrapping_add(of_ending)
 }

@@ -3,6 +3,7 @@
 use crate::account::{AccountHead, ChainReading, Write};
 use crate::engine::Engine;
 use crate::fault::Fault;
+use crate::script::Call;
 use crate::store::{Newest, Store};
 use crate::table::{Record, Table};
 use crate::{CHAIN_READINGS, MOST_RECORDS, WRITE_KEYS};
@@ -33,6 +34,47 @@ pub const DELIVER: u8 = 8;
 pub const DISCARD: u8 = 9;
 pub const COUNT: u8 = 10;
 pub const PRUNE: u8 = 11;
+
+impl From<NumberedCall> for Call {
+    fn from(call: NumberedCall) -> Self {
+        let NumberedCall { kind, place, leg, other, last, value, number } = call;
+        match kind {
+            BEGIN => Call::Begin { place, worker: last },
+            HAND => Call::Hand { place, leg, worker: last },
+            FORK => Call::Fork { place, leg, first: other, second: last },
+            JOIN => Call::Join { place, leg, second: other, worker: last },
+            READ => Call::Read { place, leg, key: last },
+            WRITE => Call::Write { place, leg, key: last, value },
+            COMMIT => Call::Commit { place, leg, clock: number, rooms: None },
+            ABANDON => Call::Abandon { place },
+            DELIVER => Call::Deliver { position: number },
+            DISCARD => Call::Discard { position: number },
+            COUNT => Call::Count,
+            _ => Call::Prune { horizon: number },
+        }
+    }
+}
+
+/// A commit's rooms are left out.
+impl From<Call> for NumberedCall {
+    fn from(call: Call) -> Self {
+        let none = Self::default();
+        match call {
+            Call::Begin { place, worker } => Self { kind: BEGIN, place, last: worker, ..none },
+            Call::Hand { place, leg, worker } => Self { kind: HAND, place, leg, last: worker, ..none },
+            Call::Fork { place, leg, first, second } => Self { kind: FORK, place, leg, other: first, last: second, ..none },
+            Call::Join { place, leg, second, worker } => Self { kind: JOIN, place, leg, other: second, last: worker, ..none },
+            Call::Read { place, leg, key } => Self { kind: READ, place, leg, last: key, ..none },
+            Call::Write { place, leg, key, value } => Self { kind: WRITE, place, leg, last: key, value, ..none },
+            Call::Commit { place, leg, clock, .. } => Self { kind: COMMIT, place, leg, number: clock, ..none },
+            Call::Abandon { place } => Self { kind: ABANDON, place, ..none },
+            Call::Deliver { position } => Self { kind: DELIVER, number: position, ..none },
+            Call::Discard { position } => Self { kind: DISCARD, number: position, ..none },
+            Call::Count => Self { kind: COUNT, ..none },
+            Call::Prune { horizon } => Self { kind: PRUNE, number: horizon, ..none },
+        }
+    }
+}
 
 pub struct Lists {
     pub readings: [ChainReading; CHAIN_READINGS],

@@ -1,8 +1,10 @@
 //! Random scripts for the control room: stores of all kinds, every call, lines that are odd or bad, numbers at and beyond their
 //! limits. What is likely differs from script to script.
 
+use crate::calls::NumberedCall;
 use crate::chance::Chance;
 use crate::play::{Memory, NEW_MEMORY, Player};
+use crate::script::{Line, parse};
 use crate::{CHAIN_READINGS, KEYS, LEGS, OPEN_END, PLACES, WORKERS, WRITE_KEYS};
 use std::fmt::Write;
 
@@ -409,6 +411,46 @@ impl Life<'_> {
                 self.write(place);
             }
             self.commit(place);
+        }
+    }
+}
+
+/// The calls of a script, but for its bad lines and the rooms of its commits.
+pub fn calls(script: &[u8]) -> Vec<NumberedCall> {
+    let lines = script.split_inclusive(|&byte| byte == b'\n').map(parse);
+    let call = |line| if let Line::Call(call) = line { Some(NumberedCall::from(call)) } else { None };
+    lines.filter_map(call).collect()
+}
+
+/// A book of the accounts that a script printed, which may be damaged.
+pub fn book(seed: u64, printed: &[u8]) -> Vec<u8> {
+    let mut chance = Chance::new(!seed);
+    let mut accounts: Vec<Vec<u8>> =
+        printed.split(|&byte| byte == b'\n').filter_map(|line| line.strip_prefix(b"  book ")).map(bytes_of).collect();
+    if !accounts.is_empty() && chance.percent(80) {
+        let at = chance.below(accounts.len() as u64) as usize;
+        damage(&mut chance, &mut accounts[at]);
+    }
+    accounts.concat()
+}
+
+fn bytes_of(digits: &[u8]) -> Vec<u8> {
+    let digit = |byte: u8| (byte as char).to_digit(16).unwrap_or(0) as u8;
+    digits.chunks(2).map(|pair| pair.iter().fold(0, |byte, &next| byte << 4 | digit(next))).collect()
+}
+
+/// Changes a byte, mostly so that the last byte is right again; or cuts the account, or adds to it.
+fn damage(chance: &mut Chance, account: &mut Vec<u8>) {
+    let size = account.len() as u64;
+    match chance.below(10) {
+        0 => account.truncate(chance.below(size) as usize),
+        1 => account.push(chance.number() as u8),
+        kind => {
+            let change = if chance.percent(50) { 1 << chance.below(8) } else { chance.number() as u8 };
+            account[chance.below(size) as usize] ^= change;
+            if kind > 3 {
+                account[size as usize - 1] ^= change;
+            }
         }
     }
 }

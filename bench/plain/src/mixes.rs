@@ -6,6 +6,8 @@ use crate::calls::*;
 use crate::chance::Chance;
 use crate::engine::Engine;
 use crate::fault::Fault;
+use crate::play::put_request;
+use crate::script::Call;
 use crate::table::{Record, Table};
 use crate::{KEYS, LEGS, MOST_RECORDS, PLACES, WORKERS};
 
@@ -432,27 +434,8 @@ pub fn book(most: usize) -> Vec<u8> {
 pub fn script(lines: usize) -> Vec<u8> {
     let mut text = Vec::new();
     for call in typical(lines).calls.iter().take(lines) {
-        crate::play::put_request(&mut text, &request(call));
+        put_request(&mut text, &Call::from(*call));
         text.push(b'\n');
     }
     text
-}
-
-fn request(call: &NumberedCall) -> crate::script::Call {
-    use crate::script::Call;
-    let NumberedCall { kind, place, leg, other, last, value, number } = *call;
-    match kind {
-        BEGIN => Call::Begin { place, worker: last },
-        HAND => Call::Hand { place, leg, worker: last },
-        FORK => Call::Fork { place, leg, first: other, second: last },
-        JOIN => Call::Join { place, leg, second: other, worker: last },
-        READ => Call::Read { place, leg, key: last },
-        WRITE => Call::Write { place, leg, key: last, value },
-        COMMIT => Call::Commit { place, leg, clock: number, rooms: None },
-        ABANDON => Call::Abandon { place },
-        DELIVER => Call::Deliver { position: number },
-        DISCARD => Call::Discard { position: number },
-        COUNT => Call::Count,
-        _ => Call::Prune { horizon: number },
-    }
 }

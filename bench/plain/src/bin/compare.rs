@@ -1,17 +1,23 @@
-//! Plays random scripts by the proved control room and by the plain one, and prints the first difference with a short script
-//! that shows it.
+//! Plays random scripts by the proved control room and by the plain one; has both engines make the script's calls over stores of
+//! several kinds; and has both read a book of the accounts that came, sound or damaged. Prints the first difference, of a script
+//! with a shorter one that shows it.
 //!
 //! usage: compare CONTROL_ROOM SCRIPTS SEED
 
-use plain::lives::script;
+#[path = "shared/proved.rs"]
+mod proved;
+
+use plain::book::{read_accounts, read_book};
+use plain::calls::{calls_on_newest, calls_on_table};
+use plain::lives::{book, calls, script};
 use plain::play::play;
 use std::collections::BTreeMap;
 use std::io::{Read, Write};
 use std::process::{Command, ExitCode, Stdio};
 use std::sync::atomic::{AtomicBool, AtomicU64, Ordering};
 
-/// What the program prints for the script.
-fn proved(program: &str, script: &[u8]) -> Result<Vec<u8>, String> {
+/// What the proved program prints for the script.
+fn played(program: &str, script: &[u8]) -> Result<Vec<u8>, String> {
     let failed = |error: std::io::Error| format!("{program}: {error}");
     let mut child = Command::new(program).stdin(Stdio::piped()).stdout(Stdio::piped()).spawn().map_err(failed)?;
     let (Some(mut input), Some(mut output)) = (child.stdin.take(), child.stdout.take()) else {
@@ -36,7 +42,20 @@ fn proved(program: &str, script: &[u8]) -> Result<Vec<u8>, String> {
 }
 
 fn differ(program: &str, script: &[u8]) -> Result<bool, String> {
-    Ok(proved(program, script)? != play(script))
+    Ok(played(program, script)? != play(script))
+}
+
+/// Are the script's calls answered differently over a newest store, or over a table of 64, 200 or 1,024 records?
+fn calls_differ(script: &[u8]) -> bool {
+    let calls = calls(script);
+    let on_table = |records| proved::calls_on_table(records, &calls) != calls_on_table(records, &calls);
+    [64, 200, 1024].into_iter().any(on_table) || proved::calls_on_newest(&calls) != calls_on_newest(&calls)
+}
+
+/// Is the book of this seed and these accounts read differently?
+fn reads_differ(seed: u64, printed: &[u8]) -> bool {
+    let book = book(seed, printed);
+    proved::read_book(&book) != read_book(&book)
 }
 
 /// Leaves out lines as long as both still differ.
@@ -65,8 +84,18 @@ fn shortened(program: &str, script: &[u8]) -> Result<Vec<u8>, String> {
 }
 
 fn print_difference(program: &str, seed: u64, script: &[u8]) -> Result<(), String> {
+    if !differ(program, script)? && calls_differ(script) {
+        println!("over another store the calls of the script of seed {seed} are answered differently:");
+        print!("{}", String::from_utf8_lossy(script));
+        return Ok(());
+    }
+    if !differ(program, script)? {
+        let book: String = book(seed, &play(script)).iter().map(|byte| format!("{byte:02x}")).collect();
+        println!("the book of seed {seed} is read differently:\n{book}");
+        return Ok(());
+    }
     let short = shortened(program, script)?;
-    let (one, other) = (proved(program, &short)?, play(&short));
+    let (one, other) = (played(program, &short)?, play(&short));
     let text = |bytes: &[u8]| String::from_utf8_lossy(bytes).into_owned();
     let (one, other) = (text(&one), text(&other));
     println!("the script of seed {seed} is played differently; so is this shorter one:");
@@ -80,7 +109,7 @@ fn print_difference(program: &str, seed: u64, script: &[u8]) -> Result<(), Strin
     Ok(())
 }
 
-/// How often each kind of answer was printed: its word, and of a refusal its number and layer.
+/// Counts each kind of answer that was printed: its word, and of a refusal its number and layer.
 fn count_answers(printed: &[u8], answers: &mut BTreeMap<String, u64>) {
     for line in String::from_utf8_lossy(printed).lines() {
         let answer = match line.split_once(" -> ") {
@@ -112,11 +141,16 @@ fn compare(program: &str, first: u64, count: u64) -> Result<(Option<u64>, BTreeM
             let seed = first.wrapping_add(number);
             let script = script(seed);
             let printed = play(&script);
-            if proved(program, &script)? != printed {
+            if played(program, &script)? != printed || calls_differ(&script) || reads_differ(seed, &printed) {
                 stopped.store(true, Ordering::Relaxed);
                 return Ok((Some(seed), answers));
             }
             count_answers(&printed, &mut answers);
+            let ending = match read_accounts(&book(seed, &printed)).1 {
+                None => "book read to its end".to_string(),
+                Some((refusal, _)) => format!("book refused {}", refusal.number()),
+            };
+            *answers.entry(ending).or_default() += 1;
         }
         Ok((None, answers))
     };
@@ -151,7 +185,7 @@ fn compare_all() -> Result<bool, String> {
         print_difference(program, seed, &script(seed))?;
         return Ok(false);
     }
-    println!("{count} scripts, {} lines printed but those of accounts: no difference", answers.values().sum::<u64>());
+    println!("{count} scripts, each one's calls over other stores, and a book of its accounts: no difference");
     for (name, number) in answers {
         println!("  {name:<24} {number:>9}");
     }

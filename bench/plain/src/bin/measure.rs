@@ -2,6 +2,9 @@
 //!
 //! usage: measure CONTROL_ROOM PLAIN_CONTROL_ROOM FOLDER     the two programs, and a folder for what they print
 
+#[path = "shared/proved.rs"]
+mod proved;
+
 use plain::calls::{NumberedCall, calls_on_newest, calls_on_table};
 use plain::mixes::{Mix, book, commits, filling, mixes, script, short_chains, store_reads};
 use plain::{KEYS, MOST_RECORDS};
@@ -12,28 +15,6 @@ use std::process::{Command, ExitCode, Stdio};
 
 const CALLS: usize = 30_000;
 const TIMES: usize = 41;
-
-#[link(name = "bench_calls", kind = "static")]
-unsafe extern "C" {
-    fn bench_calls_on_table(records: usize, calls: *const NumberedCall, count: usize) -> u64;
-    fn bench_calls_on_newest(calls: *const NumberedCall, count: usize) -> u64;
-    fn bench_read_book(book: *const u8, size: usize) -> u64;
-}
-
-fn proved_on_table(records: usize, calls: &[NumberedCall]) -> u64 {
-    // SAFETY: the function takes any number of records and any slice of calls, which it only reads
-    unsafe { bench_calls_on_table(records, calls.as_ptr(), calls.len()) }
-}
-
-fn proved_on_newest(calls: &[NumberedCall]) -> u64 {
-    // SAFETY: the function takes any slice of calls, which it only reads
-    unsafe { bench_calls_on_newest(calls.as_ptr(), calls.len()) }
-}
-
-fn proved_read_book(book: &[u8]) -> u64 {
-    // SAFETY: the function takes any slice of bytes, which it only reads
-    unsafe { bench_read_book(book.as_ptr(), book.len()) }
-}
 
 #[repr(C)]
 #[derive(Clone, Copy, Default)]
@@ -121,8 +102,9 @@ fn print_mixes() -> Result<(), String> {
     println!("mix                    proved    plain  ratio      proved    plain  ratio     calls");
     for mix in mixes(CALLS) {
         let calls = &mix.calls;
-        let table = measured(mix.name, TIMES, || proved_on_table(MOST_RECORDS, calls), || calls_on_table(MOST_RECORDS, calls))?;
-        let newest = measured(mix.name, TIMES, || proved_on_newest(calls), || calls_on_newest(calls))?;
+        let table =
+            measured(mix.name, TIMES, || proved::calls_on_table(MOST_RECORDS, calls), || calls_on_table(MOST_RECORDS, calls))?;
+        let newest = measured(mix.name, TIMES, || proved::calls_on_newest(calls), || calls_on_newest(calls))?;
         let count = calls.len();
         println!("{:<18} {}    {}    {count:>6}", mix.name, cell(table, count), cell(newest, count));
     }
@@ -132,7 +114,7 @@ fn print_mixes() -> Result<(), String> {
 /// How much the calls behind the filling of a table took, each.
 fn behind_filling(what: &str, filling: &[NumberedCall], calls: &[NumberedCall], count: usize) -> Result<String, String> {
     let of = |calls: &[NumberedCall]| {
-        measured(what, TIMES, || proved_on_table(MOST_RECORDS, calls), || calls_on_table(MOST_RECORDS, calls))
+        measured(what, TIMES, || proved::calls_on_table(MOST_RECORDS, calls), || calls_on_table(MOST_RECORDS, calls))
     };
     let (first, both) = (of(filling)?, of(calls)?);
     let times = Times { proved: both.proved - first.proved, plain: both.plain - first.plain };
@@ -159,7 +141,7 @@ fn print_short_chains() -> Result<(), String> {
     const CHAINS: usize = 1_000;
     println!("nanoseconds a chain, over the newest store           proved    plain  ratio");
     for Mix { name, calls } in short_chains(CHAINS) {
-        let times = measured(name, TIMES, || proved_on_newest(&calls), || calls_on_newest(&calls))?;
+        let times = measured(name, TIMES, || proved::calls_on_newest(&calls), || calls_on_newest(&calls))?;
         println!("  {name:<48} {}", cell(times, CHAINS));
     }
     Ok(())
@@ -168,7 +150,7 @@ fn print_short_chains() -> Result<(), String> {
 fn print_book() -> Result<(), String> {
     const MOST_BYTES: usize = 65_536;
     let book = book(MOST_BYTES);
-    let times = measured("book", 200, || proved_read_book(&book), || plain::book::read_book(&book))?;
+    let times = measured("book", 200, || proved::read_book(&book), || plain::book::read_book(&book))?;
     println!("reading a book of {} bytes, nanoseconds a byte:", book.len());
     println!(
         "  proved {:.3}  plain {:.3}  ratio {:.2}",
