@@ -105,8 +105,13 @@ impl List {
 
     /// Gives each of the first keys as many versions as the depth.
     fn fill(&mut self, keys: u8) {
+        self.add_versions(keys, DEPTH - 1);
+    }
+
+    /// Gives each of the first keys so many versions more.
+    fn add_versions(&mut self, keys: u8, versions: u8) {
         let all: Vec<u8> = (0..keys).collect();
-        for _ in 1..DEPTH {
+        for _ in 0..versions {
             for some in all.chunks(8) {
                 self.write_keys(0, 0, some.iter().copied());
             }
@@ -129,9 +134,12 @@ pub struct Mix {
     pub calls: Vec<NumberedCall>,
 }
 
+/// Adds some more calls to a list.
+type More = fn(&mut List);
+
 /// The six lists, each of about so many calls.
 pub fn mixes(calls: usize) -> Vec<Mix> {
-    let makers: [(&str, fn(&mut List)); 5] =
+    let makers: [(&str, More); 5] =
         [("reads", reads), ("writes", writes), ("fork and join", forks), ("notices", notices), ("prunes", prunes)];
     let mut mixes: Vec<Mix> = makers
         .into_iter()
@@ -310,7 +318,7 @@ fn step(list: &mut List, place: u8, open: &mut Open) {
 
 /// Short chains over and over, so many of each kind, which show what a call costs.
 pub fn short_chains(count: usize) -> Vec<Mix> {
-    let makers: [(&str, fn(&mut List)); 11] = [
+    let makers: [(&str, More); 11] = [
         ("begin, abandon", |list| {
             list.begin(0, 0);
             list.abandon(0);
@@ -415,6 +423,28 @@ pub fn store_reads(keys: u8, count: usize) -> Vec<NumberedCall> {
             list.read(0, 0, key);
         }
         list.commit(0, 0);
+    }
+    list.calls
+}
+
+/// The same at a time when half of the versions had been written. A worker's cache has a reading of that time, which each chain
+/// reads before it is handed to another worker. That reading is made in the midst of the filling, by three calls more.
+pub fn old_reads(keys: u8, count: usize) -> Vec<NumberedCall> {
+    let mut list = List::new(3);
+    list.add_versions(keys, DEPTH / 2);
+    list.begin(0, 6);
+    list.read(0, 0, 0);
+    list.commit(0, 0);
+    list.add_versions(keys, DEPTH / 2 - 1);
+    let reads: Vec<u8> = (0..KEYS).cycle().take(count).collect();
+    for some in reads.chunks(31) {
+        list.begin(0, 6);
+        list.read(0, 0, 0);
+        let _ = list.hand(0, 0, 7);
+        for &key in some {
+            list.read(0, 1, key);
+        }
+        list.commit(0, 1);
     }
     list.calls
 }

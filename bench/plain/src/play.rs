@@ -15,8 +15,8 @@ pub type Memory = [Record; MOST_RECORDS];
 pub const NEW_MEMORY: Memory = [Record { key: 0, timestamp: 0, value: 0 }; MOST_RECORDS];
 
 enum AnyEngine<'a> {
-    Newest(Engine<Newest>),
-    Table(Engine<Table<'a>>),
+    Newest(Box<Engine<Newest>>),
+    Table(Box<Engine<Table<'a>>>),
 }
 
 /// Plays a script line by line. The memory for a table's records is taken by the line that makes the engine.
@@ -48,13 +48,13 @@ impl<'a> Player<'a> {
 
     fn play_call(&mut self, call: &Call, out: &mut Vec<u8>) {
         if let Some(memory) = self.memory.take() {
-            self.engine = Some(AnyEngine::Table(Engine::new(Table::new(memory))));
+            self.engine = Some(AnyEngine::Table(Box::new(Engine::new(Table::new(memory)))));
         }
         put_request(out, call);
         out.extend_from_slice(b" -> ");
         match &mut self.engine {
-            Some(AnyEngine::Newest(engine)) => make(engine, call, &mut self.lists, out),
-            Some(AnyEngine::Table(engine)) => make(engine, call, &mut self.lists, out),
+            Some(AnyEngine::Newest(engine)) => make(engine.as_mut(), call, &mut self.lists, out),
+            Some(AnyEngine::Table(engine)) => make(engine.as_mut(), call, &mut self.lists, out),
             None => unreachable!("the first call or store line makes the engine"),
         }
         .unwrap_or_else(|fault| put_fault(out, fault));
@@ -82,7 +82,7 @@ fn play_store<'a>(kind: StoreKind, memory: &'a mut Memory, out: &mut Vec<u8>) ->
     match kind {
         StoreKind::Newest => {
             out.extend_from_slice(b"store newest -> done\n");
-            AnyEngine::Newest(Engine::new(Newest::default()))
+            AnyEngine::Newest(Box::new(Engine::new(Newest::default())))
         }
         StoreKind::Table(records) => {
             put_words(out, b"store table", &[records as u64]);
@@ -95,7 +95,7 @@ fn play_store<'a>(kind: StoreKind, memory: &'a mut Memory, out: &mut Vec<u8>) ->
                 }
             }
             out.push(b'\n');
-            AnyEngine::Table(Engine::new(Table::new(memory)))
+            AnyEngine::Table(Box::new(Engine::new(Table::new(memory))))
         }
     }
 }

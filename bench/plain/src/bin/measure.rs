@@ -6,7 +6,7 @@
 mod proved;
 
 use plain::calls::{NumberedCall, calls_on_newest, calls_on_table};
-use plain::mixes::{Mix, book, commits, filling, mixes, script, short_chains, store_reads};
+use plain::mixes::{Mix, book, commits, filling, mixes, old_reads, script, short_chains, store_reads};
 use plain::{KEYS, MOST_RECORDS};
 use std::ffi::c_int;
 use std::fs::File;
@@ -98,7 +98,7 @@ fn cell(times: Times, count: usize) -> String {
 }
 
 fn print_mixes() -> Result<(), String> {
-    println!("nanoseconds a call         table of 1,024 records            newest store");
+    println!("nanoseconds a call           table of 1,024 records            newest store");
     println!("mix                    proved    plain  ratio      proved    plain  ratio     calls");
     for mix in mixes(CALLS) {
         let calls = &mix.calls;
@@ -124,16 +124,17 @@ fn behind_filling(what: &str, filling: &[NumberedCall], calls: &[NumberedCall], 
 fn print_growth() -> Result<(), String> {
     const COMMITS: usize = 4_000;
     const READS: usize = 16_000;
-    println!("nanoseconds, over a table with so many versions:");
-    println!("             a commit of one key that drops    a read that no cache answers");
-    println!("  versions     proved    plain  ratio            proved    plain  ratio");
+    println!("nanoseconds, over a table with so many versions; reads that no cache answers:");
+    println!("           a commit of one key that drops  a read of the newest version    a read at half the time");
+    println!("  versions   proved    plain  ratio          proved    plain  ratio          proved    plain  ratio");
     for keys in [1, 4, 8, 12, 21, 29, 38, 46, 55, 64] {
         let filling = filling(keys);
         let commit = behind_filling("commits", &filling, &commits(keys, COMMITS), COMMITS)?;
         let read = behind_filling("store reads", &filling, &store_reads(keys, READS), READS)?;
-        println!("  {:>8}   {commit}          {read}", usize::from(KEYS) + 15 * usize::from(keys));
+        let old = behind_filling("old reads", &filling, &old_reads(keys, READS), READS)?;
+        println!("  {:>8} {commit}        {read}        {old}", usize::from(KEYS) + 15 * usize::from(keys));
     }
-    println!("  (a commit with its begin and its write; a read with a 32nd part of its chain's begin and commit)");
+    println!("  (a commit with its begin and its write; a read with a 32nd part of what else its chain does)");
     Ok(())
 }
 
