@@ -52,23 +52,22 @@ impl<'a> Table<'a> {
 
     /// Drops the oldest record of each of these keys, of which each has one, and moves the runs between them down.
     fn drop_oldest(&mut self, mut keys: u64) {
+        let kept = &mut self.memory[..self.kept];
         let (mut to, mut run) = (0, 0);
-        for place in 0..self.kept {
-            let bit = 1 << (self.memory[place].key & 63);
-            if keys & bit != 0 {
-                if to != run {
-                    self.memory.copy_within(run..place, to);
-                }
-                to += place - run;
-                run = place + 1;
-                keys ^= bit;
-                if keys == 0 {
-                    break;
-                }
+        while keys != 0 {
+            let Some(size) = kept[run..].iter().position(|record| keys >> (record.key & 63) & 1 == 1) else {
+                break;
+            };
+            let place = run + size;
+            keys &= !(1 << (kept[place].key & 63));
+            if to != run {
+                kept.copy_within(run..place, to);
             }
+            to += size;
+            run = place + 1;
         }
-        self.memory.copy_within(run..self.kept, to);
-        self.kept = to + self.kept - run;
+        kept.copy_within(run.., to);
+        self.kept -= run - to;
     }
 }
 
