@@ -71,6 +71,27 @@ impl<'a> Table<'a> {
     }
 }
 
+/// How many records are compared before a branch.
+const AT_ONCE: usize = 8;
+
+fn have(records: &[Record; AT_ONCE], key: u8) -> bool {
+    records.iter().fold(false, |found, record| found | (record.key == key))
+}
+
+/// The last record of the key.
+fn last_of(records: &[Record], key: u8) -> Option<&Record> {
+    let (start, chunks) = records.as_rchunks();
+    let chunk = chunks.iter().rev().find(|chunk| have(chunk, key));
+    chunk.map_or(start, |chunk| chunk.as_slice()).iter().rev().find(|record| record.key == key)
+}
+
+/// The first record of the key.
+fn first_of(records: &[Record], key: u8) -> Option<&Record> {
+    let (chunks, end) = records.as_chunks();
+    let chunk = chunks.iter().find(|chunk| have(chunk, key));
+    chunk.map_or(end, |chunk| chunk.as_slice()).iter().find(|record| record.key == key)
+}
+
 impl Store for Table<'_> {
     fn version(&self, key: u8, time: u64) -> Result<Reading, Refusal> {
         let kept = &self.memory[..self.kept];
@@ -78,12 +99,12 @@ impl Store for Table<'_> {
             return Ok(Reading { value: 0, timestamp: 0, promise: self.last });
         }
         if time >= self.last {
-            let newest = kept.iter().rev().find(|record| record.key == key).ok_or(Refusal::VersionGone)?;
+            let newest = last_of(kept, key).ok_or(Refusal::VersionGone)?;
             return Ok(Reading { value: newest.value, timestamp: newest.timestamp, promise: self.last });
         }
         let (until, after) = kept.split_at(kept.partition_point(|record| record.timestamp <= time));
-        let newest = until.iter().rev().find(|record| record.key == key).ok_or(Refusal::VersionGone)?;
-        let next = after.iter().find(|record| record.key == key);
+        let newest = last_of(until, key).ok_or(Refusal::VersionGone)?;
+        let next = first_of(after, key);
         let promise = next.map_or(self.last, |record| record.timestamp - 1);
         Ok(Reading { value: newest.value, timestamp: newest.timestamp, promise })
     }
