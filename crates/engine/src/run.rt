@@ -45,7 +45,7 @@ pub fn run_over<S: Store>(
     ensures succeeds { vec_len answers.old + length calls.now ≤ vec_capacity answers.old → is_ok result ≡ true }
     ensures law { OnOk result (RunKeepsLaw S.Store.DEPTH calls.now (S.Reads.meaning store.old) (engine_after_calls S.Store.DEPTH calls.now (new_engine (S.Reads.meaning store.old)))) }
     ensures loan { S.Store.loan store.new ≡ S.Store.loan store.old }
-    ensures memory { OnOk result (S.Store.Holds (S.Store.loan store.old) (engine_after_calls S.Store.DEPTH calls.now (new_engine (S.Reads.meaning store.old))).store (S.Store.memory store.new)) }
+    ensures memory { MatchResult result (λ _. S.Store.Holds (S.Store.loan store.old) (engine_after_calls S.Store.DEPTH calls.now (new_engine (S.Reads.meaning store.old))).store (S.Store.memory store.new)) (λ _. S.Store.Holds (S.Store.loan store.old) (S.Reads.meaning store.old) (S.Store.memory store.new)) }
 {
     perform_all(&mut State::new(), store, calls, answers)
 }

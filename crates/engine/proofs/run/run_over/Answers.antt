@@ -31,4 +31,4 @@ returns-clause-memory g c =
     let store = c.perform_all.new.store in
     MatchResult-weaker c.perform_all.result (returns-clause-after g c)
     (λ _ is. subst₂ (λ l m. g.S.Store.Holds l m (g.S.Store.memory store)) c.perform_all.ensures.loan is (g.met.S.Store.holds store))
-    (λ _ _. tt)
+    (λ _ same. subst₂ (λ l m. g.S.Store.Holds l m (g.S.Store.memory store)) c.perform_all.ensures.loan (ap g.S.Reads.meaning same) (g.met.S.Store.holds store))
