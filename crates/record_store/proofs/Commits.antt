@@ -13,11 +13,12 @@ use Rattle.store.specs.Meaning.{Meaning, fit_writes, version_of, new_store, newe
 use Rattle.store.specs.declared.version.Version.{Version}
 use Rattle.records.proofs.Dropping.{same_function}
 use Rattle.records.proofs.Layouts.{all_from, all_left, commit_order, commit_sound, first_kept, first_length, first_order, first_sound, of_key_commit, of_key_prune, order_left, versions_together}
-use Rattle.records.proofs.Remaining.{left_length, outdated_within}
+use Rattle.records.proofs.Remaining.{excess_within, left_length, outdated_within}
 use Rattle.records.proofs.Totals.{none_total, number_within}
 use Rattle.records.specs.Layouts.{are_sound, capacity_for, in_order, record_depth, records_meaning, room_for, sound_record}
 use Rattle.records.specs.PerKeys.{number_for, per_key, total_of}
-use Rattle.records.specs.Records.{after_writes, drop_firsts, excess, first_records, of_key, written}
+use Rattle.records.proofs.Changes.{after_writes, excess}
+use Rattle.records.specs.Records.{drop_firsts, first_records, of_key, written}
 use Rattle.records.specs.declared.per_key.PerKey.{PerKey}
 use Rattle.records.specs.declared.record.Record.{Record}
 use Rattle.record_store.proofs.Excesses.{dropped, excess_is, of_keys}
@@ -82,13 +83,6 @@ first_excess ws k =
     omega (arith, ap length (first_kept k), cond_both (is_key k) (version_of 0 0 ∷ []) [] (λ vs. length vs ≤ 1) (λ _. omega arith) (λ _. omega arith)) in
     cond_both (is_key k) _ 0 (λ x. x ≡ 0) (λ _. no_excess (written_to k ws) (of_key k (first_records key_count)) one) (λ _. refl)
 
-excess_le : (o : Option ℕ) (vs : List Version) → excess record_depth o vs ≤ length vs
-excess_le None vs = omega arith
-excess_le (Some x) vs = omega arith
-
-per_key_le : (f g : ℕ → ℕ) (k : ℕ) → f k ≤ g k → per_key f k ≤ g k
-per_key_le f g k le = cond_both (is_key k) (f k) 0 (λ n. n ≤ g k) (λ _. le) (λ _. omega arith)
-
 -- what each key drops for these writes, of these records
 abbrev pub dropping : List Write → List Record → ℕ → ℕ
 dropping ws rs k = per_key (λ j. excess record_depth (written_to j ws) (of_key j rs)) k
@@ -96,7 +90,7 @@ dropping ws rs k = per_key (λ j. excess record_depth (written_to j ws) (of_key 
 drops : (ws : List Write) (rs : List Record) (last : ℕ) → are_sound true rs last ≡ true → length (drop_firsts (dropping ws rs) rs) + total_of (dropping ws rs) ≡ length rs
 drops ws rs last sound =
     left_length (dropping ws rs) rs (keys_in rs last sound)
-    (λ k. per_key_le (λ j. excess record_depth (written_to j ws) (of_key j rs)) (λ j. length (of_key j rs)) k (excess_le (written_to k ws) (of_key k rs)))
+    (excess_within record_depth ws rs)
 
 -- as many versions as records, in memory that is fit
 module _ (t : ℕ) (ws : List Write) (fit_ws : fit_writes ws ≡ true) (rs : List Record) (size last : ℕ) (later : last < t) (sound : are_sound true rs last ≡ true) where
@@ -224,9 +218,9 @@ room_decides false size p rs last t ws fit_ws later sound counted excess is =
     lt-leb _ key_count (unfit_full t ws fit_ws size rs last later) ∙ sym (lt-leb (length ws + (length rs - excess)) 0 (omega (arith, fit_some ws fit_ws)))
 
 -- and no more go than there are
-pub excess_within : (fit : Bool) (p : PerKey) (rs : List Record) (last : ℕ) (ws : List Write) → are_sound fit rs last ≡ true → (fit ≡ false → rs ≡ []) → CountsOf p rs → total_of (λ k. excess_for record_depth (written_to k ws) (number_for p k)) ≤ length rs
-excess_within true p rs last ws sound unfit counted = omega (arith, drops ws rs last sound, ap total_of (goes p rs ws counted))
-excess_within false p rs last ws sound unfit counted =
+pub no_more_go : (fit : Bool) (p : PerKey) (rs : List Record) (last : ℕ) (ws : List Write) → are_sound fit rs last ≡ true → (fit ≡ false → rs ≡ []) → CountsOf p rs → total_of (λ k. excess_for record_depth (written_to k ws) (number_for p k)) ≤ length rs
+no_more_go true p rs last ws sound unfit counted = omega (arith, drops ws rs last sound, ap total_of (goes p rs ws counted))
+no_more_go false p rs last ws sound unfit counted =
     let none : (k : ℕ) → dropping ws rs k ≡ 0 = λ k.
     subst (λ xs. dropping ws xs k ≡ 0) (sym (unfit refl)) (cond_both (is_key k) (excess record_depth (written_to k ws) []) 0 (λ n. n ≡ 0) (λ _. no_excess (written_to k ws) [] (omega arith)) (λ _. refl)) in
     omega (arith, ap total_of (goes p rs ws counted), none_total key_count (dropping ws rs) none)

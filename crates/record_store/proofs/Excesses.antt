@@ -11,7 +11,8 @@ use Rattle.store.specs.declared.version.Version.{Version}
 use Rattle.records.proofs.Counting.{counted, set_more, unwritten_before, written_elsewhere, written_here, written_keys}
 use Rattle.records.proofs.Totals.{total_change}
 use Rattle.records.specs.PerKeys.{number_for, per_key, total_of, with}
-use Rattle.records.specs.Records.{excess, of_key}
+use Rattle.records.proofs.Changes.{excess}
+use Rattle.records.specs.Records.{of_key}
 use Rattle.records.specs.declared.per_key.PerKey.{PerKey}
 use Rattle.records.specs.declared.record.Record.{Record}
 use Rattle.record_store.specs.Counts.{CountsOf, excess_for}

@@ -1,18 +1,17 @@
 -- Numbers that are kept for each key while a list is walked: one more record, or one more write, changes one key's number.
-use Rattle.std.proofs.Common.{◌≡◌, ℕ, zero, suc, ◌+◌, ◌<◌, ◌≤◌, Bool, true, false, if◌then◌else◌, ◌&&◌, ◌==◌, nat_le, List, [], ◌∷◌, ◌++◌, length, get_or, take, Some, None, filter, Option, sym, refl, ap, ◌∙◌, subst, ⊎_elim, arith}
+use Rattle.std.proofs.Common.{◌≡◌, ℕ, zero, suc, ◌+◌, ◌<◌, ◌≤◌, Bool, true, false, if◌then◌else◌, ◌&&◌, ◌==◌, List, [], ◌∷◌, ◌++◌, length, get_or, take, Some, None, filter, Option, sym, refl, ap, ◌∙◌, subst, ⊎_elim, arith}
 use Rattle.std.specs.Option.{option_or}
 use Rattle.std.proofs.lemmas.List.{length-map, length_push, length-take, take_more}
 use Rattle.std.proofs.lemmas.List.Sums.{length-filter, count_by-le-length}
-use Rattle.std.proofs.lemmas.Bool.{cases_eq, cond-true, cond-false, cond_both, eq-eqb, ne_eqb, le-leb, lt-leb}
+use Rattle.std.proofs.lemmas.Bool.{cases_eq, cond-true, cond-false, cond_both, eq-eqb, ne_eqb}
 use Rattle.std.proofs.lemmas.Bool.Decides.{nat_tests}
 use Rattle.snapshot.proofs.Zeros.{zero_write}
 use Rattle.snapshot.specs.Accounts.{rising_from}
 use Rattle.snapshot.specs.Limits.{is_key, key_count}
 use Rattle.snapshot.specs.declared.account.Write.{Write}
-use Rattle.store.specs.Meaning.{outdated, written_to}
+use Rattle.store.specs.Meaning.{written_to}
 use Rattle.store.proofs.Writes.{rising_keys, rising_later}
 use Rattle.records.proofs.Keys.{of_key_more_yes, of_key_more_no}
-use Rattle.records.proofs.Pushes.{outdated_push}
 use Rattle.records.specs.PerKeys.{number_for, per_key, with}
 use Rattle.records.specs.Records.{has_key, record_version, of_key, no_record}
 use Rattle.records.specs.declared.per_key.PerKey.{PerKey}
@@ -50,10 +49,6 @@ module _ (p q : PerKey) (f f' : ℕ → ℕ) (key n : ℕ) (old : Numbers p f) (
       (λ ne. other k ne (others k ne))
       (cases_eq key k)
 
--- numbers that agree at each key
-pub same_numbers : (p : PerKey) (f f' : ℕ → ℕ) → Numbers p f → ((k : ℕ) → f' k ≡ f k) → Numbers p f'
-same_numbers p f f' old same k = old k ∙ ap (λ x. if is_key k then x else 0) (sym (same k))
-
 -- the number of versions of each key
 abbrev pub counted : List Record → ℕ → ℕ
 counted rs k = length (of_key k rs)
@@ -71,10 +66,6 @@ counted_le rs i k = omega (arith, counted_within (take i rs) k, length-take i rs
 pub number_at : (p : PerKey) (f : ℕ → ℕ) (key n : ℕ) → Numbers p f → n ≡ number_for p key → is_key key ≡ true → n ≡ f key
 number_at p f key n numbers is key_in = is ∙ numbers key ∙ cond-true (is_key key) (f key) 0 key_in
 
--- the number of outdated versions of each key
-abbrev pub outdated_in : ℕ → List Record → ℕ → ℕ
-outdated_in h rs k = outdated h (of_key k rs)
-
 -- one record more
 module _ (rs : List Record) (i : ℕ) (lt : i < length rs) where
   abbrev r : Record
@@ -91,25 +82,6 @@ module _ (rs : List Record) (i : ℕ) (lt : i < length rs) where
       set_more p q (counted (take i rs)) (counted (take (i + 1) rs)) r.key (n + 1) old made
       (λ key_in. ap length pushed_here ∙ length_push (of_key r.key (take i rs)) (record_version r) ∙ ap (λ m. m + 1) (sym (number_at p (counted (take i rs)) r.key n old count key_in)))
       (λ k ne. ap length (same_elsewhere k ne))
-
-  outdated_here : (h : ℕ) → outdated_in h (take (i + 1) rs) r.key ≡ (if nat_le r.timestamp h then counted (take i rs) r.key else outdated_in h (take i rs) r.key)
-  outdated_here h = ap (outdated h) pushed_here ∙ outdated_push h (of_key r.key (take i rs)) (record_version r)
-
-  pub outdated_set :
-      (h : ℕ) (p q counts : PerKey) (n : ℕ) → Numbers p (outdated_in h (take i rs)) → Numbers counts (counted (take i rs)) → n ≡ number_for counts r.key → r.timestamp ≤ h →
-      ((k : ℕ) → number_for q k ≡ with (number_for p) r.key n k) → Numbers q (outdated_in h (take (i + 1) rs))
-  outdated_set h p q counts n old counting count le made =
-      set_more p q (outdated_in h (take i rs)) (outdated_in h (take (i + 1) rs)) r.key n old made
-      (λ key_in. outdated_here h ∙ cond-true (nat_le r.timestamp h) _ _ (le-leb r.timestamp h le) ∙ sym (number_at counts (counted (take i rs)) r.key n counting count key_in))
-      (λ k ne. ap (outdated h) (same_elsewhere k ne))
-
-  pub outdated_same : (h : ℕ) (p : PerKey) → Numbers p (outdated_in h (take i rs)) → h < r.timestamp → Numbers p (outdated_in h (take (i + 1) rs))
-  outdated_same h p old lt_h =
-      same_numbers p (outdated_in h (take i rs)) (outdated_in h (take (i + 1) rs)) old
-      (λ k. ⊎_elim
-      (λ e. let at : ℕ → Type 0 = λ j. outdated_in h (take (i + 1) rs) j ≡ outdated_in h (take i rs) j in subst at e (outdated_here h ∙ cond-false (nat_le r.timestamp h) _ _ (lt-leb r.timestamp h lt_h)))
-      (λ ne. ap (outdated h) (same_elsewhere k ne))
-      (cases_eq r.key k))
 
 -- one write more
 or_none : (o : Option ℕ) → option_or o None ≡ o

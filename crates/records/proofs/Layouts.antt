@@ -15,7 +15,8 @@ use Rattle.store.specs.declared.version.Version.{Version}
 use Rattle.store.proofs.Writes.{rising_later, rising_keys, unwritten_below, unwritten_past}
 use Rattle.records.proofs.Keys.{of_key_append}
 use Rattle.records.specs.PerKeys.{one_less, per_key}
-use Rattle.records.specs.Records.{after_writes, drop_firsts, excess, first_records, has_key, of_key, record_of, record_version, without_outdated, written}
+use Rattle.records.proofs.Changes.{after_writes, excess, without_outdated}
+use Rattle.records.specs.Records.{drop_firsts, first_records, has_key, of_key, record_of, record_version, written}
 use Rattle.records.specs.Layouts.{in_order, is_before, sound_record}
 use Rattle.records.specs.declared.record.Record.{Record}
 

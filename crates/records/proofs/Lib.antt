@@ -1,6 +1,4 @@
-pub mod Pushes
 pub mod Keys
-pub mod Looks
 pub mod Counting
 pub mod Dropping
 pub mod Running
@@ -14,3 +12,4 @@ pub mod Remaining
 pub mod Orders
 pub mod Finding
 pub mod Outdated
+pub mod Changes

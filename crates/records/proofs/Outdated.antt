@@ -10,10 +10,9 @@ use Rattle.snapshot.specs.Limits.{is_key}
 use Rattle.snapshot.specs.declared.account.Reading.{Reading}
 use Rattle.store.specs.Meaning.{reading_of, end_before, newest_at, some_up_to, outdated}
 use Rattle.store.specs.declared.version.Version.{Version}
-use Rattle.records.proofs.Dropping.{same_function}
 use Rattle.records.proofs.Keys.{of_key_append}
 use Rattle.records.specs.PerKeys.{number_for, per_key}
-use Rattle.records.specs.Records.{drop_firsts, has_key, no_record, of_key, record_version, without_outdated}
+use Rattle.records.specs.Records.{has_key, no_record, of_key, record_version}
 use Rattle.records.specs.declared.per_key.PerKey.{PerKey}
 use Rattle.records.specs.declared.record.Record.{Record}
 
@@ -149,6 +148,3 @@ module _
         ∙ ap (λ n. n - 1) (counted k)
         ∙ one_less_of (is_key k) (length (of_key k (take end xs)))
         ∙ ap (λ n. if is_key k then n else 0) (sym (outdated_is k))
-
-    pub outdated_left : drop_firsts (number_for numbers) (take kept xs) ≡ without_outdated time (take kept xs)
-    outdated_left = ap (λ f. drop_firsts f (take kept xs)) (same_function outdated_numbers)

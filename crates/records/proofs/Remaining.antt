@@ -10,7 +10,8 @@ use Rattle.store.specs.declared.version.Version.{Version}
 use Rattle.records.proofs.Layouts.{all_left, of_key_left, versions_together}
 use Rattle.records.proofs.Counting.{Numbers, counted}
 use Rattle.records.specs.PerKeys.{number_for, per_key, total_below, total_of}
-use Rattle.records.specs.Records.{drop_firsts, excess, of_key}
+use Rattle.records.proofs.Changes.{excess}
+use Rattle.records.specs.Records.{drop_firsts, of_key}
 use Rattle.records.specs.declared.per_key.PerKey.{PerKey}
 use Rattle.records.specs.declared.record.Record.{Record}
 

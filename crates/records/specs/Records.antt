@@ -1,11 +1,11 @@
 -- Lists of records, oldest first: the versions that they hold of each key, and what is left when each key drops some.
-use Rattle.std.specs.Prelude.{ℕ, zero, suc, ◌-◌, Bool, if◌then◌else◌, List, [], ◌∷◌, ◌++◌, map, length, Some, None, Ok, Err, filter, Option, Result, ◌==◌, nat_lt, nat_le}
+use Rattle.std.specs.Prelude.{ℕ, zero, suc, Bool, if◌then◌else◌, List, [], ◌∷◌, ◌++◌, map, Ok, Err, filter, Result, ◌==◌, nat_lt, nat_le}
 use Rattle.snapshot.specs.declared.fault.Fault.{Fault}
 use Rattle.snapshot.specs.declared.fault.Refusal.TheVariants.{CapacityExceeded}
 use Rattle.snapshot.specs.declared.account.Write.{Write}
-use Rattle.store.specs.Meaning.{version_of, outdated, store_fault, written_to}
+use Rattle.store.specs.Meaning.{version_of, store_fault}
 use Rattle.store.specs.declared.version.Version.{Version}
-use Rattle.records.specs.PerKeys.{one_less, per_key}
+use Rattle.records.specs.PerKeys.{one_less}
 use Rattle.records.specs.declared.record.Record.{Record}
 
 abbrev pub record_of : ℕ → ℕ → ℕ → Record
@@ -36,23 +36,9 @@ drop_firsts e [] = []
 drop_firsts e (r ∷ rs) =
     if nat_lt 0 (e r.key) then drop_firsts (one_less e r.key) rs else r ∷ drop_firsts e rs
 
--- how many of a key's versions have to go so that with one more there are no more than the depth; none if it gets no more
-abbrev pub excess : ℕ → Option ℕ → List Version → ℕ
-excess depth None vs = 0
-excess depth (Some x) vs = length vs - (depth - 1)
-
 -- refused where there is no room for so many
 abbrev pub if_fits : ℕ → ℕ → Result (Unit {0}) Fault
 if_fits count room = if nat_le count room then Ok tt else Err (store_fault CapacityExceeded)
-
--- the list after a commit of these writes: the written keys drop what is too much, and each write adds a record
-abbrev pub after_writes : ℕ → ℕ → List Write → List Record → List Record
-after_writes depth t ws rs =
-    drop_firsts (per_key (λ k. excess depth (written_to k ws) (of_key k rs))) rs ++ map (written t) ws
-
--- the list after a prune at this horizon: each key drops what is outdated
-abbrev pub without_outdated : ℕ → List Record → List Record
-without_outdated h rs = drop_firsts (per_key (λ k. outdated h (of_key k rs))) rs
 
 -- the list of a new store, of the keys below n: value 0 at time 0 for each key
 unfoldable pub first_records : ℕ → List Record

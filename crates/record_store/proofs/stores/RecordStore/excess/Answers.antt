@@ -10,7 +10,7 @@ use Rattle.records.proofs.Counting.{counted_within}
 use Rattle.records.specs.Layouts.{room_for}
 use Rattle.records.specs.PerKeys.{number_for, total_of}
 use Rattle.record_store.specs.Counts.{excess_for}
-use Rattle.record_store.proofs.Commits.{excess_within, nothing_unfit, room_decides}
+use Rattle.record_store.proofs.Commits.{no_more_go, nothing_unfit, room_decides}
 use Rattle.record_store.proofs.stores.RecordStore.excess.Goals as goal
 
 pub total_excess-excess-requires : goal.total_excess-excess-requires
@@ -29,7 +29,7 @@ overflow_sub-self g c =
     let records = g.M.RecordMemory.records s.memory in
     let fit = g.M.RecordMemory.fit s.memory in
     let long = length-take-le s.kept records (omega (arith, s.within, room_le fit (length records))) in
-    omega (arith, c.total_excess-excess.ensures ∙ ap (λ d. total_of (λ k. excess_for d (written_to k u.writes.now) (number_for s.counts k))) c.DEPTH.ensures, excess_within fit s.counts (take s.kept records) s.last u.writes.now s.sound (nothing_unfit fit (length records) s.kept records s.within) s.counted, long)
+    omega (arith, c.total_excess-excess.ensures ∙ ap (λ d. total_of (λ k. excess_for d (written_to k u.writes.now) (number_for s.counts k))) c.DEPTH.ensures, no_more_go fit s.counts (take s.kept records) s.last u.writes.now s.sound (nothing_unfit fit (length records) s.kept records s.within) s.counted, long)
 
 pub returns-then-room-self-clause-answer : goal.returns-then-room-self-clause-answer
 returns-then-room-self-clause-answer g c =
