@@ -11,11 +11,10 @@ ghost use Rattle.engine.specs.Chains.{chain_of};
 ghost use Rattle.engine.specs.Commits.{committing_leg, answer_and_lists};
 ghost use Rattle.engine_model.specs.Steps.{account_for, only_open};
 ghost use Rattle.snapshot.specs.Overwriting.{overwritten};
-ghost use Rattle.engine.specs.Legs.{open_leg_of, open_in, leg_after};
+ghost use Rattle.engine.specs.Legs.{open_leg_of, open_in, leg_narrowed, leg_written};
 ghost use Rattle.engine.specs.Workers.{worker_number};
-ghost use Rattle.engine.specs.declared.leg.LegCall.TheVariants as call;
 
-use crate::leg::{Leg, LegCall, OpenLeg};
+use crate::leg::{Leg, OpenLeg};
 use crate::named::Named;
 use crate::worker::Worker;
 use engine_model::records::{CacheEntry, LegAndKey, LegReading};
@@ -52,7 +51,7 @@ impl Chain {
         ensures { chain_of result ≡ model.new_chain (worker_number worker) }
     {
         let mut chain = Chain {
-            legs: [Leg::Unused; ALL_LEGS],
+            legs: [Leg::blank(); ALL_LEGS],
             opened: 0,
             readings: BoundedList::new(),
         };
@@ -76,7 +75,7 @@ impl Chain {
         if self.opened >= LEGS {
             return Err(named.refused(Refusal::TooManyLegs));
         }
-        let _ = self.change(named.leg, LegCall::End);
+        self.end(named.leg);
         Ok(self.open(next))
     }
 
@@ -104,7 +103,7 @@ impl Chain {
         if self.opened >= LEGS - 1 {
             return Err(named.refused(Refusal::TooManyLegs));
         }
-        let _ = self.change(named.leg, LegCall::End);
+        self.end(named.leg);
         let first_leg = self.open(one);
         let second_leg = self.open(other);
         Ok((first_leg, second_leg))
@@ -136,8 +135,8 @@ impl Chain {
         let both = open
             .join(other, worker)
             .map_err(|refusal| named.refused(refusal))?;
-        let _ = self.change(named.leg, LegCall::End);
-        let _ = self.change(second, LegCall::End);
+        self.end(named.leg);
+        self.end(second);
         Ok(self.open(both))
     }
 
@@ -153,7 +152,7 @@ impl Chain {
             key: named.key,
             value,
         };
-        self.change(named.leg, LegCall::Write { write })
+        self.write_on(named.leg, write)
             .map_err(|refusal| named.refused(refusal))
     }
 
@@ -225,7 +224,7 @@ impl Chain {
         ensures { result ≡ only_open leg (chain_of self.now).legs leg_count }
     {
         let mut only = true;
-        for number in 0..LEGS {
+        for number in 0..self.opened.min(LEGS) {
             only = (number == leg || self.open_leg(number).is_none()) && only;
         }
         only
@@ -276,38 +275,53 @@ impl Chain {
 
     // Narrows the leg that made a reading, and adds the reading to those of the chain.
     fn note(&mut self, reading: LegReading)
-        requires within { reading.leg < 16 }
+        requires within { (reading.leg < 16) × (reading.leg < self.old.opened) }
         requires room { length (elements_of self.old.readings) < 32 }
-        ensures { chain_of self.new ≡ model.add_reading reading (model.with_leg reading.leg (leg_after (call.Narrow reading.made.reading) ((chain_of self.old).legs reading.leg)).1 (chain_of self.old)) }
+        ensures { chain_of self.new ≡ model.add_reading reading (model.with_leg reading.leg (leg_narrowed reading.made.reading ((chain_of self.old).legs reading.leg)) (chain_of self.old)) }
     {
         let LegReading { leg, made } = reading;
-        let _ = self.change(
-            leg,
-            LegCall::Narrow {
-                reading: made.reading,
-            },
-        );
+        self.narrow(leg, made.reading);
         self.add_reading(reading);
     }
 
     // The leg of this number, if it is open.
     fn open_leg(&self, leg: u8) -> Option<&OpenLeg>
         ensures value { option_map open_leg_of (option_copied result) ≡ open_in ((chain_of self.now).legs leg) }
-        ensures within { OnSome result (leg < 16) }
+        ensures within { OnSome result ((leg < 16) × (leg < self.now.opened)) }
     {
-        self.legs.get(leg as usize)?.as_open()
+        if leg < self.opened {
+            self.legs.get(leg as usize)?.as_open()
+        } else {
+            None
+        }
     }
 
-    // Changes a leg as the call says, or refuses as the leg does. A leg that has been found open is refused neither its end
-    // nor a narrower interval, so that a caller may drop that answer.
-    fn change(&mut self, leg: u8, call: LegCall) -> Result<(), Refusal>
-        requires { leg < 16 }
-        ensures answer { result ≡ (leg_after call ((chain_of self.old).legs leg)).0 }
-        ensures after { chain_of self.new ≡ model.with_leg leg (leg_after call ((chain_of self.old).legs leg)).1 (chain_of self.old) }
+    // Ends a leg that has been opened.
+    fn end(&mut self, leg: u8)
+        requires { (leg < 16) × (leg < self.old.opened) }
+        ensures after { chain_of self.new ≡ model.end_leg leg (chain_of self.old) }
         ensures opened { self.new.opened ≡ self.old.opened }
+    {
+        self.legs[leg as usize].end();
+    }
+
+    // Narrows a leg by a reading.
+    fn narrow(&mut self, leg: u8, reading: Reading)
+        requires { (leg < 16) × (leg < self.old.opened) }
+        ensures after { chain_of self.new ≡ model.with_leg leg (leg_narrowed reading ((chain_of self.old).legs leg)) (chain_of self.old) }
+        ensures readings { self.new.readings ≡ self.old.readings }
+    {
+        self.legs[leg as usize].narrow(reading);
+    }
+
+    // Makes a write on a leg, or refuses as the leg does.
+    fn write_on(&mut self, leg: u8, write: Write) -> Result<(), Refusal>
+        requires { (leg < 16) × (leg < self.old.opened) }
+        ensures answer { result ≡ (leg_written write ((chain_of self.old).legs leg)).0 }
+        ensures after { chain_of self.new ≡ model.with_leg leg (leg_written write ((chain_of self.old).legs leg)).1 (chain_of self.old) }
         ensures unchanged { OnErr result (self.new ≡ self.old) }
     {
-        self.legs[leg as usize].change(call)
+        self.legs[leg as usize].write(write)
     }
 
     // Opens the next leg, and answers its number.
@@ -317,7 +331,7 @@ impl Chain {
         ensures after { chain_of self.new ≡ model.open_leg (open_leg_of leg) (chain_of self.old) }
     {
         let number = self.opened;
-        self.legs[number as usize] = Leg::Open(leg);
+        self.legs[number as usize] = Leg::new(leg);
         self.opened = number + 1;
         number
     }

@@ -2,7 +2,8 @@
 ghost use Rattle.std.specs.Option.{option_map, option_copied};
 ghost use Rattle.std.specs.Prelude.{◌≡◌, OnErr};
 ghost use Rattle.std.specs.Result.{result_map_both};
-ghost use Rattle.engine.specs.Legs.{joined_leg, leg_of, open_leg_of, open_in, leg_after};
+ghost use Rattle.engine_model.specs.Engines as model;
+ghost use Rattle.engine.specs.Legs.{joined_leg, leg_of, open_leg_of, open_in, leg_narrowed, leg_written};
 ghost use Rattle.engine.specs.Workers.{worker_number};
 
 use crate::worker::Worker;
@@ -35,50 +36,62 @@ impl OpenLeg {
     }
 }
 
-// A leg by its number: it is unused until it is opened.
+// A leg that has been opened: open still, or ended.
 #[derive(Clone, Copy)]
-pub(crate) enum Leg {
-    Unused,
-    Open(OpenLeg),
-    Ended,
-}
-
-// What a call does to a leg that it names.
-#[derive(Clone, Copy)]
-pub(crate) enum LegCall {
-    Narrow { reading: Reading },
-    Write { write: Write },
-    End,
+pub(crate) struct Leg {
+    is_open: bool,
+    leg: OpenLeg,
 }
 
 impl Leg {
+    // A leg that is open.
+    pub(crate) fn new(leg: OpenLeg) -> Leg
+        ensures { leg_of result ≡ model.running (open_leg_of leg) }
+    {
+        Leg { is_open: true, leg }
+    }
+
+    // What stands where no leg has been opened yet.
+    pub(crate) fn blank() -> Leg {
+        Leg {
+            is_open: false,
+            leg: OpenLeg {
+                worker: Worker::W0,
+                interval: Interval::ALL_TIMES,
+                writes: WriteSet::new(),
+            },
+        }
+    }
+
     // The leg, if it is open.
     pub(crate) fn as_open(&self) -> Option<&OpenLeg>
         ensures { option_map open_leg_of (option_copied result) ≡ open_in (leg_of self.now) }
     {
-        match self {
-            Leg::Open(open) => Some(open),
-            Leg::Unused | Leg::Ended => None,
-        }
+        if self.is_open { Some(&self.leg) } else { None }
     }
 
-    // What becomes of a leg at a call: it is narrowed, written to or ended, or refuses where it is not open.
-    // A leg that refuses stays as it is.
-    pub(crate) fn change(&mut self, call: LegCall) -> Result<(), Refusal>
-        ensures made { (result, leg_of self.new) ≡ leg_after call (leg_of self.old) }
+    // Ends the leg.
+    pub(crate) fn end(&mut self)
+        ensures { leg_of self.new ≡ model.ended }
+    {
+        self.is_open = false;
+    }
+
+    // Narrows the interval of a leg that is open.
+    pub(crate) fn narrow(&mut self, reading: Reading)
+        ensures { leg_of self.new ≡ leg_narrowed reading (leg_of self.old) }
+    {
+        self.leg.interval = self.leg.interval.narrow(reading);
+    }
+
+    // Makes a write, which a leg that has ended refuses, and a full write set.
+    pub(crate) fn write(&mut self, write: Write) -> Result<(), Refusal>
+        ensures made { (result, leg_of self.new) ≡ leg_written write (leg_of self.old) }
         ensures unchanged { OnErr result (self.new ≡ self.old) }
     {
-        match (&mut *self, call) {
-            (Leg::Unused | Leg::Ended, _) => Err(Refusal::NotOpen),
-            (Leg::Open(open), LegCall::Narrow { reading }) => {
-                open.interval = open.interval.narrow(reading);
-                Ok(())
-            }
-            (Leg::Open(open), LegCall::Write { write }) => open.writes.write(write),
-            (Leg::Open(_), LegCall::End) => {
-                *self = Leg::Ended;
-                Ok(())
-            }
+        if !self.is_open {
+            return Err(Refusal::NotOpen);
         }
+        self.leg.writes.write(write)
     }
 }

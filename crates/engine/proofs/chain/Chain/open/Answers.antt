@@ -6,4 +6,4 @@ pub returns-clause-after : goal.returns-clause-after
 returns-clause-after c =
     let chain = c.args.self.now in
     let lt : chain.opened < length chain.legs = search rules in
-    leg_opened chain c.args.leg lt
+    leg_opened chain c.args.leg c.new.result lt c.new.ensures
