@@ -1,4 +1,5 @@
 -- What a write to a chain's legs does to what the chain means.
+use mathlib.Core.Path.{fun_ext}
 use Rattle.std.proofs.Common.{◌≡◌, ℕ, zero, suc, ◌+◌, ◌-◌, ◌<◌, ◌≤◌, Bool, eqb, ltb, true, false, ◌&&◌, ◌||◌, ◌==◌, Some, Ok, Result, List, [], length, take, set, get_or, refl, sym, ap, ◌∙◌, add-one, arith}
 use Rattle.std.proofs.Math.Seq.{take-set-lt}
 use Rattle.std.proofs.lemmas.List.{get_or-take, length-take, length-take-le, take_more_set}
@@ -6,7 +7,9 @@ use Rattle.snapshot.specs.Intervals.{from_to}
 use Rattle.snapshot.specs.Limits.{leg_count}
 use Rattle.snapshot.specs.declared.fault.EngineFault.{EngineFault}
 use Rattle.engine_parts.proofs.ItemLemmas.{item_set, item_there, item_past, item_pushed}
-use Rattle.engine_parts.specs.Lists.{item_at}
+use Rattle.engine_parts.specs.Lists.{elements_of, item_at}
+use Rattle.engine_parts.specs.declared.list.BoundedList.{BoundedList}
+use Rattle.engine_model.specs.declared.records.LegReading.{LegReading}
 use Rattle.engine_model.specs.Updates.{with_at}
 use Rattle.engine_model.specs.Steps.{only_open}
 use Rattle.engine_model.specs.Engines as model
@@ -76,6 +79,15 @@ leg_opened c o new lt is =
     ∙ ap (λ n. C (with_at n (leg_of new) (chain_of c).legs) (c.opened + 1)) (length-take-le c.opened c.legs (omega arith))
     ∙ ap (λ state. C (with_at c.opened state (chain_of c).legs) (c.opened + 1)) is
     ∙ ap (C (model.open_leg (open_leg_of o) (chain_of c)).legs) (add-one c.opened)
+
+-- a chain of no legs and no readings
+pub none_opened :
+    (legs : List Leg) (readings : BoundedList LegReading 32) → elements_of readings ≡ [] →
+    chain_of (record { legs = legs; opened = 0; readings = readings }) ≡ model.no_legs
+none_opened legs readings none =
+    let C : (ℕ → model.LegState) → List LegReading → model.Chain = λ f rs. record { legs = f; opened = 0; readings = rs } in
+    ap (C (item_at leg_of model.unused [])) none
+    ∙ ap (λ f. C f []) (fun_ext (λ l. item_past leg_of model.unused [] l (omega arith)))
 
 -- whether one leg alone is open is known from those below a number from which on none has been opened
 only_open_among :

@@ -1,6 +1,5 @@
 -- What a commit leaves: its caller's lists and the engine; and the law of its account.
 use Rattle.std.proofs.Common.{◌≡◌, ℕ, ◌+◌, ◌<◌, ◌≤◌, true, ◌&&◌, List, [], ◌∷◌, ◌++◌, length, take, set, get_or, IfOk, Some, None, Ok, Err, Option, Result, refl, sym, ap, subst, Bool, false, if◌then◌else◌, nat_le, ◌∙◌, arith}
-use Rattle.std.specs.Option.{option_map}
 use Rattle.std.specs.Result.{result_map_both}
 use Rattle.std.proofs.lemmas.List.{take_more, take_at, length-take-le, set-get_or}
 use Rattle.snapshot.specs.Accounts.{Account, head_of, account_of}
@@ -37,11 +36,14 @@ use Rattle.engine.specs.EngineLaw.{AddsAccount, InEveryTrace}
 use Rattle.engine.specs.Naming.{naming, leg_in_range}
 use Rattle.engine.specs.StepOf.{step_of}
 use Rattle.engine.specs.declared.chain.Chain.{Chain}
+use Rattle.engine.specs.declared.place.Place.{Place}
+use Rattle.engine.specs.Places.{chain_at}
+use Rattle.engine_model.specs.Updates.{with_at}
 use Rattle.engine.specs.declared.state.State.{State}
 use Rattle.engine.specs.declared.leg.OpenLeg.{OpenLeg}
 use Rattle.engine.specs.declared.named.Named.{Named}
 use Rattle.engine.proofs.ChainSteps.{WithEngine}
-use Rattle.engine.proofs.EngineLemmas.{stands}
+use Rattle.engine.proofs.EngineLemmas.{no_place, place_in}
 use Rattle.engine.proofs.CommitStep.{GivenToStore, commit_is_step, commit_made, account_made}
 
 -- The lists.
@@ -93,14 +95,15 @@ head_shown h rs ws readings_fit writes_fit =
 module _ (m : Meaning) (e : State) (p : ℕ) (within : p < length e.places) where
   -- the place is free, and notices and store are others
   pub committed :
-      (notices : Notices) (store : Meaning) →
-      engine_over store (record e { places = set (set e.places p (get_or e.places p None)) p None; notices = notices })
+      (freed : Place) (notices : Notices) (store : Meaning) → chain_at freed ≡ None →
+      engine_over store (record e { places = set (set e.places p (place_in e p)) p freed; notices = notices })
       ≡ model.with_place p None (model.with_store store (model.with_notices (notices_of notices) (engine_over m e)))
-  committed notices store =
+  committed freed notices store is =
       let E : (ℕ → Option model.Chain) → model.Engine =
       λ f. record { places = f; caches = (engine_over m e).caches; notices = notices_of notices; store = store } in
-      ap (λ ps. engine_over store (record e { places = set ps p None; notices = notices })) (set-get_or e.places p None)
-      ∙ ap E (item_set (option_map chain_of) None e.places p None within)
+      ap (λ ps. engine_over store (record e { places = set ps p freed; notices = notices })) (set-get_or e.places p no_place)
+      ∙ ap E (item_set chain_at None e.places p freed within)
+      ∙ ap (λ x. E (with_at p x (engine_over m e).places)) is
 
 -- The step.
 
@@ -201,8 +204,8 @@ has_room n r w c o e = there_is_room n r w c (c.legs n.leg) o e
 
 -- What is known of a call that found the chain at its place.
 module _ (m : Meaning) (depth : ℕ) (e : State) (n : Named) (clock r w : ℕ) (chain : Chain)
-    (no_key : n ≡ naming n.place n.leg not_named) (range : leg_in_range n ≡ true) (within : n.place < length e.places)
-    (here : get_or e.places n.place None ≡ Some chain) where
+    (no_key : n ≡ naming n.place n.leg not_named) (range : leg_in_range n ≡ true)
+    (here : (engine_over m e).places n.place ≡ Some (chain_of chain)) where
   abbrev before : model.Engine
   before = engine_over m e
 
@@ -212,7 +215,7 @@ module _ (m : Meaning) (depth : ℕ) (e : State) (n : Named) (clock r w : ℕ) (
   decided :
       commit_made depth n.place n.leg clock (chain_of chain) before (committing_leg (naming n.place n.leg not_named) r w (chain_of chain))
       ≡ of_call
-  decided = commit_is_step depth n.place n.leg clock r w before (chain_of chain) range (stands m e n.place within (Some chain) here)
+  decided = commit_is_step depth n.place n.leg clock r w before (chain_of chain) range here
 
   -- which leg commits, if one does
   found :

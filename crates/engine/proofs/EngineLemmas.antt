@@ -1,7 +1,7 @@
 -- What stands at a place of an engine, and what a change of one chain, cache or place is to the engine.
-use Rattle.std.proofs.Common.{◌≡◌, ℕ, ◌<◌, Bool, true, false, List, length, get_or, set, Some, None, Err, Option, Result, is_some, refl, ap, ◌∙◌, sym, Ok}
-use Rattle.std.specs.Option.{option_map}
+use Rattle.std.proofs.Common.{◌≡◌, ℕ, ◌<◌, Bool, true, false, List, [], length, get_or, set, Some, None, Err, Option, Result, refl, ap, ◌∙◌, sym, Ok}
 use Rattle.std.specs.Result.{result_and, result_map_both}
+use Rattle.std.proofs.lemmas.Bool.{cond-true, cond-false}
 use Rattle.std.proofs.lemmas.List.{set-get_or}
 use Rattle.snapshot.specs.Limits.{is_worker}
 use Rattle.snapshot.specs.declared.fault.EngineFault.{EngineFault}
@@ -17,9 +17,12 @@ use Rattle.engine_model.specs.Engines as model
 use Rattle.engine.specs.Chains.{chain_of}
 use Rattle.engine.specs.Engines.{engine_over}
 use Rattle.engine.specs.Naming.{in_range_or_refused}
+use Rattle.engine.specs.Places.{chain_at}
+use Rattle.engine_model.specs.Updates.{with_at}
 use Rattle.engine.specs.StepOf.{answer_and_engine}
 use Rattle.engine.specs.Workers.{worker_number}
 use Rattle.engine.specs.declared.chain.Chain.{Chain}
+use Rattle.engine.specs.declared.place.Place.{Place}
 use Rattle.engine.specs.declared.state.State.{State}
 use Rattle.engine.specs.declared.named.Named.{Named}
 use Rattle.engine.specs.declared.worker.Worker.{Worker}
@@ -88,30 +91,52 @@ worker_is n w r x found is = worker_passes n (is_worker w) w r x found is
 
 -- Places.
 
+-- stands past the end of a list of places, and is never looked at
+abbrev pub no_place : Place
+no_place = record { is_taken = false; chain = record { legs = []; opened = 0; readings = record { items = []; len = 0 } } }
+
+abbrev pub place_in : State → ℕ → Place
+place_in e p = get_or e.places p no_place
+
+pub taken : (here : Place) → here.is_taken ≡ true → chain_at here ≡ Some (chain_of here.chain)
+taken here is = cond-true here.is_taken (Some (chain_of here.chain)) None is
+
+pub not_taken : (here : Place) → here.is_taken ≡ false → chain_at here ≡ None
+not_taken here is = cond-false here.is_taken (Some (chain_of here.chain)) None is
+
 module _ (m : Meaning) (e : State) (p : ℕ) (within : p < length e.places) where
   -- what stands at a place
-  pub stands : (o : Option Chain) → get_or e.places p None ≡ o → (engine_over m e).places p ≡ option_map chain_of o
-  stands o is = item_there (option_map chain_of) None e.places p None within ∙ ap (option_map chain_of) is
+  stands_at : (engine_over m e).places p ≡ chain_at (place_in e p)
+  stands_at = item_there chain_at None e.places p no_place within
+
+  pub stands : (place_in e p).is_taken ≡ true → (engine_over m e).places p ≡ Some (chain_of (place_in e p).chain)
+  stands is = stands_at ∙ taken (place_in e p) is
+
+  pub nothing_there : (place_in e p).is_taken ≡ false → (engine_over m e).places p ≡ None
+  nothing_there is = stands_at ∙ not_taken (place_in e p) is
 
   -- another chain, or none, stands there
   pub place_set :
-      (o : Option Chain) →
-      engine_over m (record e { places = set e.places p o }) ≡ model.with_place p (option_map chain_of o) (engine_over m e)
-  place_set o =
-      ap
-      (λ f. record { places = f; caches = (engine_over m e).caches; notices = (engine_over m e).notices; store = (engine_over m e).store })
-      (item_set (option_map chain_of) None e.places p o within)
+      (here : Place) (o : Option model.Chain) → chain_at here ≡ o →
+      engine_over m (record e { places = set e.places p here }) ≡ model.with_place p o (engine_over m e)
+  place_set here o is =
+      let E : (ℕ → Option model.Chain) → model.Engine =
+      λ f. record { places = f; caches = (engine_over m e).caches; notices = (engine_over m e).notices; store = (engine_over m e).store } in
+      ap E (item_set chain_at None e.places p here within)
+      ∙ ap (λ x. E (with_at p x (engine_over m e).places)) is
 
   -- what a call makes of the chain there, it makes of the engine
   pub called :
       {X : Type 0} (r : Result X EngineFault) (after : Chain) (made : WithChain X) (step : WithEngine X) →
-      IsStepOf (engine_over m e) p made step → ◌≡◌ {A = WithChain X} (r, chain_of after) made →
-      ◌≡◌ {A = WithEngine X} (r, engine_over m (record e { places = set e.places p (Some after) })) step
-  called {X} r after made step lift is = ap (λ s. let t : WithEngine X = (r, s) in t) (place_set (Some after)) ∙ lift r (chain_of after) is
+      (place_in e p).is_taken ≡ true → IsStepOf (engine_over m e) p made step → ◌≡◌ {A = WithChain X} (r, chain_of after) made →
+      ◌≡◌ {A = WithEngine X} (r, engine_over m (record e { places = set e.places p (record (place_in e p) { chain = after }) })) step
+  called {X} r after made step is_taken lift is =
+      let here : Place = record (place_in e p) { chain = after } in
+      ap (λ s. let t : WithEngine X = (r, s) in t) (place_set here (Some (chain_of after)) (taken here is_taken)) ∙ lift r (chain_of after) is
 
   -- a place that was looked at and left
-  pub left : engine_over m (record e { places = set e.places p (get_or e.places p None) }) ≡ engine_over m e
-  left = ap (λ ps. engine_over m (record e { places = ps })) (set-get_or e.places p None)
+  pub left : engine_over m (record e { places = set e.places p (place_in e p) }) ≡ engine_over m e
+  left = ap (λ ps. engine_over m (record e { places = ps })) (set-get_or e.places p no_place)
 
 -- An answer, or an engine, in the place of one that is the same.
 
@@ -134,48 +159,43 @@ refused_out {X} s ok r f g next is same failed =
     answered s r (Err g) _ (is ∙ ap Err same) (out_of_range ok g next s failed)
 
 module _ (m : Meaning) (e : State) (p : ℕ) (within : p < length e.places) where
-  nothing_there : get_or e.places p None ≡ None → (engine_over m e).places p ≡ None
-  nothing_there none = stands m e p within None none
-
   pub refused_missing :
       {X : Type 0} (ok : Bool) (f g h : EngineFault) (l : ℕ) (next : model.Chain → model.OpenLeg → StepOutcome X) → f ≡ h →
-      ok ≡ true → get_or e.places p None ≡ None →
+      ok ≡ true → (place_in e p).is_taken ≡ false →
       ◌≡◌ {A = WithEngine X}
-      (Err f, engine_over m (record e { places = set e.places p (get_or e.places p None) }))
+      (Err f, engine_over m (record e { places = set e.places p (place_in e p) }))
       (answer_and_engine (engine_over m e) (check ok g (with_open_leg ((engine_over m e).places p) l h next)))
   refused_missing {X} ok f g h l next same passed none =
       let s = engine_over m e in
       left_after _ s (Err f) _ (left m e p within)
-      (answered s (Err f) (Err h) _ (ap Err same) (no_chain ok g (s.places p) l h next s passed (nothing_there none)))
+      (answered s (Err f) (Err h) _ (ap Err same) (no_chain ok g (s.places p) l h next s passed (nothing_there m e p within none)))
 
   pub refused_at_all :
       {X : Type 0} (ok : Bool) (f g h : EngineFault) (next : model.Chain → StepOutcome X) → f ≡ h → ok ≡ true →
-      get_or e.places p None ≡ None →
-      ComesTo (engine_over m e) (Err f) (engine_over m e) (check ok g (with_chain ((engine_over m e).places p) h next))
+      (place_in e p).is_taken ≡ false →
+      ◌≡◌ {A = WithEngine X}
+      (Err f, engine_over m (record e { places = set e.places p (place_in e p) }))
+      (answer_and_engine (engine_over m e) (check ok g (with_chain ((engine_over m e).places p) h next)))
   refused_at_all {X} ok f g h next same passed none =
       let s = engine_over m e in
-      answered s (Err f) (Err h) _ (ap Err same) (no_chain_at_all ok g (s.places p) h next s passed (nothing_there none))
+      left_after _ s (Err f) _ (left m e p within)
+      (answered s (Err f) (Err h) _ (ap Err same) (no_chain_at_all ok g (s.places p) h next s passed (nothing_there m e p within none)))
 
   -- another chain stands there, and the caches are others
   pub read_called :
-      (r : Result ℕ EngineFault) (after : Chain) (caches : List Cache) (step : WithEngine ℕ) →
+      (r : Result ℕ EngineFault) (after : Chain) (caches : List Cache) (step : WithEngine ℕ) → (place_in e p).is_taken ≡ true →
       ◌≡◌ {A = WithEngine ℕ} (r, with_caches (engine_over m e) p (chain_of after, caches_of caches)) step →
-      ◌≡◌ {A = WithEngine ℕ} (r, engine_over m (record e { places = set e.places p (Some after); caches = caches })) step
-  read_called r after caches step is =
+      ◌≡◌ {A = WithEngine ℕ}
+      (r, engine_over m (record e { places = set e.places p (record (place_in e p) { chain = after }); caches = caches }))
+      step
+  read_called r after caches step is_taken is =
       let s = engine_over m e in
+      let here : Place = record (place_in e p) { chain = after } in
       let E : (ℕ → Option model.Chain) → WithEngine ℕ =
       λ f. (r, record { places = f; caches = caches_of caches; notices = s.notices; store = s.store }) in
-      ap E (item_set (option_map chain_of) None e.places p (Some after) within) ∙ is
-
--- Free places and taken ones.
-
-pub free_place : (o : Option Chain) → is_some o ≡ false → o ≡ None
-free_place None e = refl
-free_place (Some c) e = absurd cc
-
-pub taken_place : (o : Option Chain) → is_some o ≡ true → (c : Chain) × (o ≡ Some c)
-taken_place None e = absurd cc
-taken_place (Some c) e = (c, refl)
+      ap E (item_set chain_at None e.places p here within)
+      ∙ ap (λ x. E (with_at p x s.places)) (taken here is_taken)
+      ∙ is
 
 -- Caches and notices.
 

@@ -1,6 +1,5 @@
 -- What an engine means in the model: its chains, its caches, its notices, and what its store means.
 use Rattle.std.specs.Prelude.{◌≡◌, ℕ, List, None, Result}
-use Rattle.std.specs.Option.{option_map}
 use Rattle.snapshot.specs.declared.account.AccountHead.{AccountHead}
 use Rattle.snapshot.specs.declared.account.ChainReading.{ChainReading}
 use Rattle.snapshot.specs.declared.account.Write.{Write}
@@ -13,8 +12,8 @@ use Rattle.engine_model.specs.Engines as model
 use Rattle.engine_model.specs.Steps.{AnswerTo}
 use Rattle.engine_model.specs.declared.calls.Call.{Call}
 use Rattle.engine_model.specs.declared.calls.Call.TheVariants as call
-use Rattle.engine.specs.Chains.{chain_of}
 use Rattle.engine.specs.Commits.{answer_and_lists}
+use Rattle.engine.specs.Places.{chain_at}
 use Rattle.engine.specs.StepOf.{step_of}
 use Rattle.engine.specs.declared.engine.Engine.{Engine}
 use Rattle.engine.specs.declared.state.State.{State}
@@ -22,7 +21,7 @@ use Rattle.engine.specs.declared.state.State.{State}
 -- the chain at each place, the cache of each worker, the notices, and a store that means m
 abbrev pub engine_over : Meaning → State → model.Engine
 engine_over m s =
-    record { places = item_at (option_map chain_of) None s.places; caches = caches_of s.caches; notices = notices_of s.notices; store = m }
+    record { places = item_at chain_at None s.places; caches = caches_of s.caches; notices = notices_of s.notices; store = m }
 
 -- the store below by its own meaning
 abbrev pub engine_of : {S : Type 0} → (S → Meaning) → Engine S → model.Engine

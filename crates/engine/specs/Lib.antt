@@ -2,6 +2,7 @@ pub mod Workers
 pub mod Naming
 pub mod Legs
 pub mod Chains
+pub mod Places
 pub mod ChainCalls
 pub mod Commits
 pub mod StepOf

@@ -46,21 +46,27 @@ pub(crate) struct Chain {
 }
 
 impl Chain {
-    // A chain whose leg 0 has just been opened at a worker.
-    pub(crate) fn new(worker: Worker) -> Chain
-        ensures { chain_of result ≡ model.new_chain (worker_number worker) }
-    {
-        let mut chain = Chain {
+    // What stands where no chain has been opened yet.
+    pub(crate) fn blank() -> Chain {
+        Chain {
             legs: [Leg::blank(); ALL_LEGS],
             opened: 0,
             readings: BoundedList::new(),
-        };
-        chain.open(OpenLeg {
+        }
+    }
+
+    // Makes this a chain whose leg 0 has just been opened at a worker. Legs that have not been opened are never looked at, and so
+    // stay as they are.
+    pub(crate) fn restart(&mut self, worker: Worker)
+        ensures { chain_of self.new ≡ model.new_chain (worker_number worker) }
+    {
+        self.opened = 0;
+        self.readings.clear();
+        self.open(OpenLeg {
             worker,
             interval: Interval::ALL_TIMES,
             writes: WriteSet::new(),
         });
-        chain
     }
 
     // Ends a leg and opens the next at a worker, with the same interval and write set.

@@ -7,6 +7,7 @@ pub mod engine;
 mod leg;
 mod named;
 pub mod perform;
+mod place;
 pub mod run;
 mod state;
 mod worker;

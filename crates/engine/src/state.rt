@@ -16,8 +16,9 @@ ghost use Rattle.engine.specs.Commits.{given_to_store};
 ghost use Rattle.engine_parts.specs.WaitingNotices.{notices_of};
 ghost use Rattle.engine.specs.Engines.{engine_over, StepsOver, StepsOverAny, CommitFollows};
 
-use crate::chain::{Chain, Room};
+use crate::chain::Room;
 use crate::named::Named;
+use crate::place::Place;
 use engine_model::records::Notice;
 use engine_parts::cache::{CACHES, Cache};
 use engine_parts::notices::Notices;
@@ -32,7 +33,7 @@ const ALL_PLACES: usize = PLACES as usize;
 // The chain at each place, the cache of each worker, and the notices.
 #[derive(Drop)]
 pub(crate) struct State {
-    places: [Option<Chain>; ALL_PLACES],
+    places: [Place; ALL_PLACES],
     caches: [Cache; CACHES],
     notices: Notices,
 }
@@ -43,7 +44,7 @@ impl State {
         ensures { (m : Meaning) → engine_over m result ≡ model.new_engine m }
     {
         State {
-            places: [None; ALL_PLACES],
+            places: [Place::new(); ALL_PLACES],
             caches: [Cache::new(); CACHES],
             notices: Notices::new(),
         }
@@ -56,10 +57,11 @@ impl State {
         let named = Named::place(place);
         named.check_place()?;
         let worker = named.worker(worker)?;
-        if self.places[place as usize].is_some() {
+        let here = &mut self.places[place as usize];
+        if here.is_taken {
             return Err(named.refused(Refusal::PlaceOccupied));
         }
-        self.places[place as usize] = Some(Chain::new(worker));
+        here.begin(worker);
         Ok(0)
     }
 
@@ -70,10 +72,11 @@ impl State {
         let named = Named::leg(place, leg);
         named.check_leg()?;
         let worker = named.worker(worker)?;
-        let Some(chain) = &mut self.places[place as usize] else {
+        let here = &mut self.places[place as usize];
+        if !here.is_taken {
             return Err(named.refused(Refusal::NotOpen));
-        };
-        chain.hand(named, worker)
+        }
+        here.chain.hand(named, worker)
     }
 
     pub(crate) fn fork(
@@ -90,10 +93,11 @@ impl State {
         named.check_leg()?;
         let first = named.worker(first_worker)?;
         let second = named.worker(second_worker)?;
-        let Some(chain) = &mut self.places[place as usize] else {
+        let here = &mut self.places[place as usize];
+        if !here.is_taken {
             return Err(named.refused(Refusal::NotOpen));
-        };
-        chain.fork(named, first, second)
+        }
+        here.chain.fork(named, first, second)
     }
 
     pub(crate) fn join(
@@ -110,10 +114,11 @@ impl State {
         named.check_leg()?;
         named.check(is_leg(second_leg))?;
         let worker = named.worker(worker)?;
-        let Some(chain) = &mut self.places[place as usize] else {
+        let here = &mut self.places[place as usize];
+        if !here.is_taken {
             return Err(named.refused(Refusal::NotOpen));
-        };
-        chain.join(named, second_leg, worker)
+        }
+        here.chain.join(named, second_leg, worker)
     }
 
     pub(crate) fn read<S: Reads>(
@@ -128,10 +133,11 @@ impl State {
     {
         let named = Named { place, leg, key };
         named.check_key()?;
-        let Some(chain) = &mut self.places[place as usize] else {
+        let here = &mut self.places[place as usize];
+        if !here.is_taken {
             return Err(named.refused(Refusal::NotOpen));
-        };
-        chain.read(named, &mut self.caches, store)
+        }
+        here.chain.read(named, &mut self.caches, store)
     }
 
     pub(crate) fn write(
@@ -146,10 +152,11 @@ impl State {
     {
         let named = Named { place, leg, key };
         named.check_key()?;
-        let Some(chain) = &mut self.places[place as usize] else {
+        let here = &mut self.places[place as usize];
+        if !here.is_taken {
             return Err(named.refused(Refusal::NotOpen));
-        };
-        chain.write(named, value)
+        }
+        here.chain.write(named, value)
     }
 
     // Commits into two lists, each of which counts as having as much room as `room` says. A list may be shorter than that if it
@@ -174,10 +181,11 @@ impl State {
         ensures writes_unchanged { OnErr result (writes.new ≡ writes.old) }
     {
         named.check_leg()?;
-        let Some(chain) = &self.places[named.place as usize] else {
+        let here = &self.places[named.place as usize];
+        if !here.is_taken {
             return Err(named.refused(Refusal::NotOpen));
-        };
-        let leg = chain.committing_leg(named, room)?;
+        }
+        let leg = here.chain.committing_leg(named, room)?;
         match give_to_store(
             store,
             &mut self.notices,
@@ -186,28 +194,26 @@ impl State {
             leg.writes.as_slice(),
         ) {
             Ok(timestamp) => {
-                let head = chain.account(&leg, timestamp, readings, writes);
-                self.places[named.place as usize] = None;
+                let head = here.chain.account(&leg, timestamp, readings, writes);
+                self.places[named.place as usize].free();
                 Ok(head)
             }
             Err(fault) => Err(named.refused_by_store(fault)),
         }
     }
 
-    #[tactic(auto, using(std::proofs::lemmas::Bool::Decides::nat_tests, engine_parts::proofs::ItemLemmas::item_there), unfolding(engine_model::specs::Steps::check, engine_model::specs::Steps::with_chain))]
     pub(crate) fn abandon(&mut self, place: u8) -> Result<(), EngineFault>
         ensures step { StepsOverAny (call.Abandon place) self.old result self.new }
         ensures unchanged { OnErr result (self.new ≡ self.old) }
     {
         let named = Named::place(place);
         named.check_place()?;
-        match self.places[place as usize] {
-            None => Err(named.refused(Refusal::NotOpen)),
-            Some(_) => {
-                self.places[place as usize] = None;
-                Ok(())
-            }
+        let here = &mut self.places[place as usize];
+        if !here.is_taken {
+            return Err(named.refused(Refusal::NotOpen));
         }
+        here.free();
+        Ok(())
     }
 
     #[tactic(auto, unfolding(engine_model::specs::Steps::or_else))]

@@ -48,6 +48,13 @@ impl<T: Copy, const N: usize> BoundedList<T, N> {
         N <= self.len
     }
 
+    // Drops all entries.
+    pub fn clear(&mut self)
+        ensures { elements_of self.new ≡ [] }
+    {
+        self.len = 0;
+    }
+
     // The entry at this place, if there is one.
     pub fn get(&self, place: usize) -> Option<T>
         ensures { result ≡ slice_get (elements_of self.now) place }

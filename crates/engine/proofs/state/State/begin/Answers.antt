@@ -1,4 +1,4 @@
-use Rattle.std.proofs.Common.{◌≡◌, ◌<◌, ◌&&◌, true, Some, None, Err, length, get_or, ap, ◌∙◌, rules, arith}
+use Rattle.std.proofs.Common.{◌≡◌, ◌<◌, ◌&&◌, true, Some, Err, length, ap, ◌∙◌, rules, arith}
 use Rattle.std.proofs.lemmas.Bool.Decides.{nat_tests}
 use Rattle.std.proofs.lemmas.Result.{err_from_is_err_and}
 use Rattle.snapshot.specs.Limits.{is_place, is_worker}
@@ -8,7 +8,7 @@ use Rattle.engine_model.specs.Steps.{chain_fault}
 use Rattle.engine.specs.Chains.{chain_of}
 use Rattle.engine.specs.Engines.{engine_over}
 use Rattle.engine.specs.Naming.{place_in_range}
-use Rattle.engine.proofs.EngineLemmas.{failed, passed, no_worker, worker_is, stands, place_set, answered, left_after, free_place, taken_place, refused_out}
+use Rattle.engine.proofs.EngineLemmas.{failed, passed, no_worker, worker_is, place_in, stands, nothing_there, place_set, answered, left, left_after, refused_out}
 use Rattle.engine.proofs.PlainSteps.{begin_is_step, begin_is_refused}
 use Rattle.engine.proofs.state.State.begin.Goals as goal
 
@@ -24,8 +24,8 @@ returns-in_err-worker-clause-step c m depth =
     let exit = err_from_is_err_and c.from_residual-in_err-worker.result c.from_residual-in_err-worker.ensures.1 in
     refused_out _ _ _ _ _ _ (exit.1 ∙ ap Err exit.2) out.1 (grind (arith, nat_tests))
 
-pub returns-then-is_some-clause-step : goal.returns-then-is_some-clause-step
-returns-then-is_some-clause-step c m depth =
+pub returns-then-here-clause-step : goal.returns-then-here-clause-step
+returns-then-here-clause-step c m depth =
     let e = c.args.self.now in
     let p = c.args.place in
     let s = engine_over m e in
@@ -33,11 +33,11 @@ returns-then-is_some-clause-step c m depth =
     let worker = worker_is _ c.args.worker _ _ c.worker.ensures c.in_ok-worker.was in
     let range : (is_place p && is_worker c.args.worker) ≡ true = grind (arith, nat_tests) in
     let within : p < length e.places = grind (arith, nat_tests) in
-    let taken = taken_place (get_or e.places p None) (search rules) in
-    let there = stands m e p within (Some taken.0) taken.1 in
-    answered s (Err _) (Err _) _
+    let there = stands m e p within (search rules) in
+    left_after _ _ _ _ (left m e p within)
+    (answered s (Err _) (Err _) _
     (ap Err (c.refused.ensures ∙ ap (λ n. chain_fault n.place n.leg n.key PlaceOccupied) c.place-named.ensures))
-    (begin_is_refused depth p c.args.worker s (chain_of taken.0) range there)
+    (begin_is_refused depth p c.args.worker s (chain_of (place_in e p).chain) range there))
 
 pub returns-clause-step : goal.returns-clause-step
 returns-clause-step c m depth =
@@ -48,8 +48,6 @@ returns-clause-step c m depth =
     let worker = worker_is _ c.args.worker _ _ c.worker.ensures c.in_ok-worker.was in
     let range : (is_place p && is_worker c.args.worker) ≡ true = grind (arith, nat_tests) in
     let within : p < length e.places = grind (arith, nat_tests) in
-    let free = free_place (get_or e.places p None) (search rules) in
-    let there = stands m e p within None free in
-    let opened = c.new.ensures ∙ ap model.new_chain worker.1 in
-    left_after _ _ _ _ (place_set m e p within (Some c.new.result) ∙ ap (λ x. model.with_place p (Some x) s) opened)
-    (begin_is_step depth p c.args.worker s range there)
+    let there = nothing_there m e p within (search rules) in
+    let opened = c.begin.ensures ∙ ap (λ w. Some (model.new_chain w)) worker.1 in
+    left_after _ _ _ _ (place_set m e p within c.begin.new.self _ opened) (begin_is_step depth p c.args.worker s range there)

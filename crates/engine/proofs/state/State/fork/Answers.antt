@@ -1,4 +1,4 @@
-use Rattle.std.proofs.Common.{◌≡◌, ◌<◌, ◌&&◌, true, Some, Err, length, ap, ◌∙◌, arith}
+use Rattle.std.proofs.Common.{◌≡◌, ◌<◌, ◌&&◌, true, Err, length, ap, ◌∙◌, rules, arith}
 use Rattle.std.proofs.lemmas.Bool.Decides.{nat_tests}
 use Rattle.std.proofs.lemmas.Result.{err_from_is_err_and}
 use Rattle.snapshot.specs.Limits.{is_place, is_leg, is_worker}
@@ -10,7 +10,7 @@ use Rattle.engine.specs.ChainCalls.{after_fork}
 use Rattle.engine.specs.Engines.{engine_over}
 use Rattle.engine.specs.Naming.{naming, leg_in_range}
 use Rattle.engine.specs.Workers.{worker_number}
-use Rattle.engine.proofs.EngineLemmas.{failed, passed, no_worker, worker_is, stands, called, refused_out, refused_missing}
+use Rattle.engine.proofs.EngineLemmas.{place_in, failed, passed, no_worker, worker_is, stands, called, refused_out, refused_missing}
 use Rattle.engine.proofs.ChainSteps.{fork_is_step}
 use Rattle.engine.proofs.state.State.fork.Goals as goal
 
@@ -32,8 +32,8 @@ returns-in_err-second-clause-step c m depth =
     let exit = err_from_is_err_and c.from_residual-in_err-second.result c.from_residual-in_err-second.ensures.1 in
     refused_out _ _ _ _ _ _ (exit.1 ∙ ap Err exit.2) out.1 (grind (arith, nat_tests))
 
-pub returns-in_default-clause-step : goal.returns-in_default-clause-step
-returns-in_default-clause-step c m depth =
+pub returns-then-not-here-clause-step : goal.returns-then-not-here-clause-step
+returns-then-not-here-clause-step c m depth =
     let e = c.args.self.now in
     let p = c.args.place in
     let leg = passed leg_in_range _ _ _ _ c.leg-named.ensures c.check_leg.ensures c.in_ok-check_leg.was in
@@ -41,7 +41,7 @@ returns-in_default-clause-step c m depth =
     let second = worker_is _ c.args.second_worker _ _ c.worker-2.ensures c.in_ok-second.was in
     let within : p < length e.places = grind (arith, nat_tests) in
     refused_missing m e p within _ _ _ _ _ _
-    (c.refused.ensures ∙ ap (λ n. chain_fault n.place n.leg n.key NotOpen) c.leg-named.ensures) (grind (arith, nat_tests)) c.in_default.is
+    (c.refused.ensures ∙ ap (λ n. chain_fault n.place n.leg n.key NotOpen) c.leg-named.ensures) (grind (arith, nat_tests)) (search rules)
 
 pub returns-clause-step : goal.returns-clause-step
 returns-clause-step c m depth =
@@ -49,7 +49,7 @@ returns-clause-step c m depth =
     let p = c.args.place in
     let l = c.args.leg in
     let n = naming p l not_named in
-    let chain = c.in-Some.chain in
+    let chain = (place_in e p).chain in
     let w = worker_number c.in_ok-first.first in
     let v = worker_number c.in_ok-second.second in
     let leg = passed leg_in_range _ _ _ _ c.leg-named.ensures c.check_leg.ensures c.in_ok-check_leg.was in
@@ -57,8 +57,9 @@ returns-clause-step c m depth =
     let second = worker_is _ c.args.second_worker _ _ c.worker-2.ensures c.in_ok-second.was in
     let range : (is_place p && is_leg l && is_worker c.args.first_worker && is_worker c.args.second_worker) ≡ true = grind (arith, nat_tests) in
     let within : p < length e.places = grind (arith, nat_tests) in
-    let there = stands m e p within (Some chain) c.in-Some.is in
-    called m e p within c.fork.result c.fork.new.self _ _
+    let is_taken : (place_in e p).is_taken ≡ true = search rules in
+    let there = stands m e p within is_taken in
+    called m e p within c.fork.result c.fork.new.self _ _ is_taken
     (fork_is_step depth p l c.args.first_worker c.args.second_worker (engine_over m e) (chain_of chain) range there)
     (c.fork.ensures.made
     ∙ ap (λ k. after_fork k w v (chain_of chain)) c.leg-named.ensures
