@@ -5,7 +5,7 @@ ghost use Rattle.std.specs.Prelude.{◌≡◌, ◌<◌, ◌≤◌, length, map, 
 ghost use Rattle.snapshot.specs.Limits.{chain_readings, leg_count};
 ghost use Rattle.engine_model.specs.Engines as model;
 ghost use Rattle.engine_parts.specs.Lists.{elements_of};
-ghost use Rattle.engine_parts.specs.Caches.{cache_of, caches_of};
+ghost use Rattle.engine_parts.specs.Caches.{caches_of};
 ghost use Rattle.engine.specs.ChainCalls.{after_hand, after_fork, after_join, after_write, further_reading, after_read};
 ghost use Rattle.engine.specs.Chains.{chain_of};
 ghost use Rattle.engine.specs.Commits.{committing_leg, answer_and_lists};
@@ -359,7 +359,7 @@ fn look_further<S: Reads>(
     interval: Interval,
     key: u8,
 ) -> Result<Reading, Fault>
-    ensures made { (result, cache_of cache.new) ≡ further_reading (S.Reads.meaning store.now) interval key (cache_of cache.old) }
+    ensures made { (result, cache.new) ≡ further_reading (S.Reads.meaning store.now) interval key cache.old }
     ensures unchanged { OnErr result (cache.new ≡ cache.old) }
 {
     match cache.answering(interval, key) {

@@ -45,7 +45,7 @@ impl State {
     {
         State {
             places: [Place::new(); ALL_PLACES],
-            caches: [Cache::new(); CACHES],
+            caches: std::array::from_fn(|_| Cache::new()),
             notices: Notices::new(),
         }
     }

@@ -1,5 +1,6 @@
 pub mod ListProofs
 pub mod CacheLemmas
+pub mod CountLemmas
 pub mod ItemLemmas
 pub mod NoticeLemmas
 pub mod WriteSetLemmas

@@ -1,13 +1,17 @@
--- What caches mean in the model.
-use Rattle.std.specs.Prelude.{ℕ, List, []}
-use Rattle.engine_model.specs.Caches as model
-use Rattle.engine_parts.specs.Lists.{elements_of, item_at}
-use Rattle.engine_parts.specs.declared.cache.Cache.{Cache}
-
--- a worker's cache: its entries, the one used longest ago first
-abbrev pub cache_of : Cache → model.Cache
-cache_of c = elements_of c.entries
+-- What caches mean in the model, and how a cache counts its entries.
+use Rattle.std.specs.Prelude.{◌≡◌, ℕ, suc, ◌<◌, if◌then◌else◌, List, [], ◌∷◌, ◌==◌, slice_index_or}
+use Rattle.engine_model.specs.Caches.{Cache}
+use Rattle.engine_parts.specs.Lists.{item_at}
 
 -- the cache of each worker, in the order of the list; a worker past its end has no entry
-abbrev pub caches_of : List Cache → ℕ → model.Cache
-caches_of cs = item_at cache_of [] cs
+abbrev pub caches_of : List Cache → ℕ → Cache
+caches_of cs = item_at (λ c. c) [] cs
+
+-- how many entries of a key there are
+abbrev pub entries_of_key : ℕ → Cache → ℕ
+entries_of_key k [] = 0
+entries_of_key k (e ∷ es) = if e.key == k then suc (entries_of_key k es) else entries_of_key k es
+
+-- the number at each key's place in the list is that of its entries
+abbrev pub CountsEntries : List ℕ → Cache → Type 0
+CountsEntries counts c = (k : ℕ) → k < 256 → slice_index_or counts k 0 ≡ entries_of_key k c

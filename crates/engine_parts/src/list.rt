@@ -43,7 +43,8 @@ impl<T: Copy, const N: usize> BoundedList<T, N> {
 
     // Is there room for no more?
     pub fn is_full(&self) -> bool
-        ensures { result ≡ nat_le N (length (elements_of self.now)) }
+        ensures value { result ≡ nat_le N (length (elements_of self.now)) }
+        ensures fits { length (elements_of self.now) ≤ N }
     {
         N <= self.len
     }
