@@ -15,7 +15,6 @@ use Rattle.snapshot.specs.declared.fault.Refusal.TheVariants.{NotOpen, AnotherLe
 use Rattle.snapshot.proofs.Overwritten.{one_more}
 use Rattle.store.specs.Meaning.{Meaning}
 use Rattle.engine_parts.specs.WaitingNotices.{notices_of}
-use Rattle.engine_parts.specs.WriteSets.{writes_of}
 use Rattle.engine_parts.specs.declared.notices.Notices.{Notices}
 use Rattle.engine_parts.proofs.ItemLemmas.{item_set}
 use Rattle.engine_model.specs.Engines as model
@@ -31,7 +30,8 @@ use Rattle.engine.specs.ChainCalls.{on_open}
 use Rattle.engine.specs.Chains.{chain_of}
 use Rattle.engine.specs.Commits.{committing_leg, answer_and_lists, account_in, given_to_store}
 use Rattle.engine.specs.Engines.{CallersLists, engine_over}
-use Rattle.engine.specs.Legs.{open_leg_of}
+use Rattle.engine.specs.Legs.{lent_leg}
+use Rattle.std.specs.Borrow.{Bor}
 use Rattle.engine.specs.EngineLaw.{AddsAccount, InEveryTrace}
 use Rattle.engine.specs.Naming.{naming, leg_in_range}
 use Rattle.engine.specs.StepOf.{step_of}
@@ -219,33 +219,33 @@ module _ (m : Meaning) (depth : ℕ) (e : State) (n : Named) (clock r w : ℕ) (
 
   -- which leg commits, if one does
   found :
-      (q : Result OpenLeg EngineFault) (leg : Result model.OpenLeg EngineFault) →
-      result_map_both open_leg_of (λ f. f) q ≡ committing_leg n r w (chain_of chain) → result_map_both open_leg_of (λ f. f) q ≡ leg →
+      (q : Result (Bor OpenLeg) EngineFault) (leg : Result model.OpenLeg EngineFault) →
+      result_map_both lent_leg (λ f. f) q ≡ committing_leg n r w (chain_of chain) → result_map_both lent_leg (λ f. f) q ≡ leg →
       leg ≡ committing_leg (naming n.place n.leg not_named) r w (chain_of chain)
   found q leg ensured known = sym known ∙ ensured ∙ ap (λ k. committing_leg k r w (chain_of chain)) no_key
 
   -- none does
   pub none_commits :
-      (q : Result OpenLeg EngineFault) (f : EngineFault) →
-      result_map_both open_leg_of (λ f. f) q ≡ committing_leg n r w (chain_of chain) → q ≡ Err f →
+      (q : Result (Bor OpenLeg) EngineFault) (f : EngineFault) →
+      result_map_both lent_leg (λ f. f) q ≡ committing_leg n r w (chain_of chain) → q ≡ Err f →
       ◌≡◌ {A = WithEngine Account} (Err f, before) of_call
   none_commits q f ensured is =
       ap (commit_made depth n.place n.leg clock (chain_of chain) before)
-      (found q (Err f) ensured (ap (result_map_both open_leg_of (λ f. f)) is))
+      (found q (Err f) ensured (ap (result_map_both lent_leg (λ f. f)) is))
       ∙ decided
 
   -- one does, and the store answers this
   pub one_commits :
-      (q : Result OpenLeg EngineFault) (last : OpenLeg) →
-      result_map_both open_leg_of (λ f. f) q ≡ committing_leg n r w (chain_of chain) → q ≡ Ok last → (written : List Write) →
-      written ≡ writes_of last.writes → (answer known : Result ℕ Fault) (store : Meaning) (notices : model.Notices) →
+      (q : Result (Bor OpenLeg) EngineFault) (last : Bor OpenLeg) →
+      result_map_both lent_leg (λ f. f) q ≡ committing_leg n r w (chain_of chain) → q ≡ Ok last → (written : List Write) →
+      written ≡ (lent_leg last).writes → (answer known : Result ℕ Fault) (store : Meaning) (notices : model.Notices) →
       (answer, (store, notices)) ≡ given_to_store depth clock written before.caches (before.store, before.notices) → answer ≡ known →
-      account_made n.place n.leg (chain_of chain) (open_leg_of last) before (known, (store, notices)) ≡ of_call
+      account_made n.place n.leg (chain_of chain) (lent_leg last) before (known, (store, notices)) ≡ of_call
   one_commits q last ensured is written are answer known store notices handed is_known =
-      let In : GivenToStore → WithEngine Account = account_made n.place n.leg (chain_of chain) (open_leg_of last) before in
+      let In : GivenToStore → WithEngine Account = account_made n.place n.leg (chain_of chain) (lent_leg last) before in
       let With : Result ℕ Fault → GivenToStore = λ x. (x, (store, notices)) in
       ap In
       (ap With (sym is_known) ∙ handed ∙ ap (λ xs. given_to_store depth clock xs before.caches (before.store, before.notices)) are)
       ∙ ap (commit_made depth n.place n.leg clock (chain_of chain) before)
-      (found q (Ok (open_leg_of last)) ensured (ap (result_map_both open_leg_of (λ f. f)) is))
+      (found q (Ok (lent_leg last)) ensured (ap (result_map_both lent_leg (λ f. f)) is))
       ∙ decided

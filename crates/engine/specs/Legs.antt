@@ -1,5 +1,6 @@
 -- What a leg means in the model, and what a call does to one.
 use Rattle.std.specs.Prelude.{ℕ, if◌then◌else◌, List, Some, None, Ok, Err, Option, Result}
+use Rattle.std.specs.Borrow.{Bor}
 use Rattle.snapshot.specs.Intervals.{narrowed, joined_or_refused}
 use Rattle.snapshot.specs.declared.account.Reading.{Reading}
 use Rattle.snapshot.specs.declared.account.Write.{Write}
@@ -15,6 +16,10 @@ use Rattle.engine.specs.declared.leg.OpenLeg.{OpenLeg}
 -- a leg that is open, as the model has it
 abbrev pub open_leg_of : OpenLeg → model.OpenLeg
 open_leg_of o = record { worker = worker_number o.worker; interval = o.interval; writes = writes_of o.writes }
+
+-- the same of a leg that is lent
+abbrev pub lent_leg : Bor OpenLeg → model.OpenLeg
+lent_leg o = open_leg_of o.now
 
 -- a leg that has been opened: running or ended
 abbrev pub leg_of : Leg → model.LegState

@@ -11,7 +11,7 @@ ghost use Rattle.engine.specs.Chains.{chain_of};
 ghost use Rattle.engine.specs.Commits.{committing_leg, answer_and_lists};
 ghost use Rattle.engine_model.specs.Steps.{account_for, only_open};
 ghost use Rattle.snapshot.specs.Overwriting.{overwritten};
-ghost use Rattle.engine.specs.Legs.{open_leg_of, open_in, leg_narrowed, leg_written};
+ghost use Rattle.engine.specs.Legs.{open_leg_of, lent_leg, open_in, leg_narrowed, leg_written};
 ghost use Rattle.engine.specs.Workers.{worker_number};
 
 use crate::leg::{Leg, OpenLeg};
@@ -209,8 +209,8 @@ impl Chain {
 
     // The leg that commits: the only one that is open, where there is room for the chain's readings and for the leg's writes.
     // Refused, in this order: 3 that leg is not open, 9 another leg is open, 10 there is too little room.
-    pub(crate) fn committing_leg(&self, named: Named, room: Room) -> Result<OpenLeg, EngineFault>
-        ensures value { result_map_both open_leg_of (λ f. f) result ≡ committing_leg named room.readings room.writes (chain_of self.now) }
+    pub(crate) fn committing_leg(&self, named: Named, room: Room) -> Result<&OpenLeg, EngineFault>
+        ensures value { result_map_both lent_leg (λ f. f) result ≡ committing_leg named room.readings room.writes (chain_of self.now) }
         ensures few { OnOk result (length (chain_of self.now).readings ≤ chain_readings) }
     {
         let Some(open) = self.open_leg(named.leg) else {
@@ -222,7 +222,7 @@ impl Chain {
         if room.readings < self.readings.len() || room.writes < open.writes.as_slice().len() {
             return Err(named.refused(Refusal::TooShort));
         }
-        Ok(*open)
+        Ok(open)
     }
 
     // Is no leg but this one open?

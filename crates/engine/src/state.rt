@@ -194,7 +194,7 @@ impl State {
             leg.writes.as_slice(),
         ) {
             Ok(timestamp) => {
-                let head = here.chain.account(&leg, timestamp, readings, writes);
+                let head = here.chain.account(leg, timestamp, readings, writes);
                 self.places[named.place as usize].free();
                 Ok(head)
             }

@@ -7,7 +7,7 @@ use Rattle.snapshot.specs.declared.fault.Refusal.TheVariants.{NotOpen}
 use Rattle.engine_model.specs.Steps.{account_for, chain_fault}
 use Rattle.engine.specs.Chains.{chain_of}
 use Rattle.engine.specs.Engines.{engine_over}
-use Rattle.engine.specs.Legs.{open_leg_of}
+use Rattle.engine.specs.Legs.{lent_leg}
 use Rattle.engine.specs.Naming.{leg_in_range}
 use Rattle.engine.specs.declared.place.Place.{Place}
 use Rattle.engine.proofs.CommitLemmas.{commit_accepted, commit_refused, committed, has_room, none_commits, one_commits}
@@ -49,12 +49,12 @@ returns-in_err-leg-clause-step g c =
 
 pub account-head-requires-clause-readings_fit : goal.account-head-requires-clause-readings_fit
 account-head-requires-clause-readings_fit g c =
-    let room = has_room c.args.named _ _ (chain_of (place_in c.args.self.now c.args.named.place).chain) (open_leg_of c.in_ok-leg.leg) (sym c.committing_leg.ensures.value ∙ ap (result_map_both open_leg_of (λ f. f)) c.in_ok-leg.was) in
+    let room = has_room c.args.named _ _ (chain_of (place_in c.args.self.now c.args.named.place).chain) (lent_leg c.in_ok-leg.leg) (sym c.committing_leg.ensures.value ∙ ap (result_map_both lent_leg (λ f. f)) c.in_ok-leg.was) in
     grind (arith, nat_tests)
 
 pub account-head-requires-clause-writes_fit : goal.account-head-requires-clause-writes_fit
 account-head-requires-clause-writes_fit g c =
-    let room = has_room c.args.named _ _ (chain_of (place_in c.args.self.now c.args.named.place).chain) (open_leg_of c.in_ok-leg.leg) (sym c.committing_leg.ensures.value ∙ ap (result_map_both open_leg_of (λ f. f)) c.in_ok-leg.was) in
+    let room = has_room c.args.named _ _ (chain_of (place_in c.args.self.now c.args.named.place).chain) (lent_leg c.in_ok-leg.leg) (sym c.committing_leg.ensures.value ∙ ap (result_map_both lent_leg (λ f. f)) c.in_ok-leg.was) in
     grind (arith, nat_tests)
 
 pub returns-in-Ok-clause-step : goal.returns-in-Ok-clause-step
@@ -66,7 +66,7 @@ returns-in-Ok-clause-step g c =
     let range = passed leg_in_range n n _ _ refl c.check_leg.ensures c.in_ok-check_leg.was in
     let within : n.place < length e.places = grind (arith, nat_tests) in
     commit_accepted depth n.place n.leg c.args.clock c.args.room.readings c.args.room.writes c.args.readings.now c.args.writes.now
-    (engine_over m e) _ _ _ _ (account_for (chain_of (place_in e n.place).chain) (open_leg_of c.in_ok-leg.leg) c.in-Ok.timestamp)
+    (engine_over m e) _ _ _ _ (account_for (chain_of (place_in e n.place).chain) (lent_leg c.in_ok-leg.leg) c.in-Ok.timestamp)
     (committed m e n.place within c.free.new.self c.give_to_store.new.notices (g.S.Reads.meaning c.give_to_store.new.store) c.free.ensures) c.account-head.ensures
     (one_commits m depth e n c.args.clock c.args.room.readings c.args.room.writes (place_in e n.place).chain c.requires.no_key range
     (stands m e n.place within (search rules)) _ _ c.committing_leg.ensures.value c.in_ok-leg.was _ c.as_slice.ensures.value _ _ _ _ c.give_to_store.ensures.made c.in-Ok.is)
