@@ -57,7 +57,7 @@ impl Leg {
             is_open: false,
             leg: OpenLeg {
                 worker: Worker::W0,
-                interval: Interval::ALL_TIMES,
+                interval: Interval { low: 0, high: 0 },
                 writes: WriteSet::new(),
             },
         }

@@ -50,6 +50,7 @@ impl State {
         }
     }
 
+    #[inline(always)]
     pub(crate) fn begin(&mut self, place: u8, worker: u8) -> Result<u8, EngineFault>
         ensures step { StepsOverAny (call.Begin place worker) self.old result self.new }
         ensures unchanged { OnErr result (self.new ≡ self.old) }
@@ -140,6 +141,7 @@ impl State {
         here.chain.read(named, &mut self.caches, store)
     }
 
+    #[inline(always)]
     pub(crate) fn write(
         &mut self,
         place: u8,
@@ -202,6 +204,7 @@ impl State {
         }
     }
 
+    #[inline(always)]
     pub(crate) fn abandon(&mut self, place: u8) -> Result<(), EngineFault>
         ensures step { StepsOverAny (call.Abandon place) self.old result self.new }
         ensures unchanged { OnErr result (self.new ≡ self.old) }
