@@ -7,7 +7,8 @@ use Rattle.snapshot.specs.Shown.{line_break}
 use Rattle.snapshot.specs.declared.fault.EngineFault.{EngineFault}
 use Rattle.snapshot.specs.declared.fault.Fault.{Fault}
 use Rattle.store.specs.Meaning.{new_store}
-use Rattle.table_store.specs.Tables.{capacity_of, memory_check, table_depth}
+use Rattle.records.specs.Layouts.{record_depth}
+use Rattle.record_store.specs.Tables.{capacity_of, memory_check}
 use Rattle.book.specs.Outputs.{AppendsFront}
 use Rattle.engine_model.specs.Engines.{Engine, new_engine}
 use Rattle.engine.specs.Performing.{performed}
@@ -81,9 +82,9 @@ played number (line.Store Newest ∷ lines) =
     result_line (store_text Newest) (Ok answer.Done) ++ played_on 1 (new_engine (new_store key_count)) (number + 1) lines
 played number (line.Store (Table records) ∷ lines) =
     let size = min records most_records in
-    result_line (store_text (Table records)) (check_result (memory_check size)) ++ played_on table_depth (over_table size) (number + 1) lines
+    result_line (store_text (Table records)) (check_result (memory_check size)) ++ played_on record_depth (over_table size) (number + 1) lines
 played number (line.Call request ∷ lines) =
-    played_on table_depth (over_table most_records) number (line.Call request ∷ lines)
+    played_on record_depth (over_table most_records) number (line.Call request ∷ lines)
 
 -- what a script prints
 abbrev pub printed : List ℕ → List ℕ

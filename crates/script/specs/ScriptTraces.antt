@@ -2,7 +2,7 @@
 use Rattle.std.specs.Prelude.{◌≡◌, ℕ, ◌+◌, ◌≤◌, min, List, [], ◌∷◌, ◌++◌, Result, Ok}
 use Rattle.snapshot.specs.Limits.{key_count, most_records}
 use Rattle.snapshot.specs.declared.fault.EngineFault.{EngineFault}
-use Rattle.table_store.specs.Tables.{capacity_of, memory_check}
+use Rattle.record_store.specs.Tables.{capacity_of, memory_check}
 use Rattle.engine_model.specs.Engines.{Engine}
 use Rattle.engine_model.specs.Traces.{NewStore, new_newest, new_table}
 use Rattle.engine_model.specs.declared.calls.Call.{Call}

@@ -2,8 +2,8 @@
 use Rattle.std.proofs.Common.{◌≡◌, ◌+◌, ◌∷◌, Err, refl, rules}
 use Rattle.engine.specs.Engines.{engine_of}
 use Rattle.engine.specs.Performing.{performed}
-use Rattle.table_store.specs.Stores.{meaning_of}
-use Rattle.table_store.specs.Tables.{table_depth}
+use Rattle.records.specs.Layouts.{record_depth}
+use Rattle.record_store.specs.Tables.{table_meaning}
 use Rattle.script.specs.Played.{played, played_on, parsed_lines, result_line, shown_result}
 use Rattle.script.specs.Shown.{request_text}
 use Rattle.script.specs.declared.line.Line.TheVariants as line
@@ -19,8 +19,8 @@ returns g c =
     (g.W.Write.contents c.args.output.now)
     (g.W.Write.contents c.perform.new.output)
     (g.W.Write.contents c.play_on.new.output)
-    (result_line (request_text c.args.first) (shown_result (performed table_depth c.args.first.call (engine_of meaning_of c.new-engine.result)).0))
-    (λ rest. played_on table_depth (engine_of meaning_of c.perform.new.engine) (c.args.number + 1) (parsed_lines rest))
+    (result_line (request_text c.args.first) (shown_result (performed record_depth c.args.first.call (engine_of (λ t. table_meaning t.memory.now t.kept t.last) c.new-engine.result)).0))
+    (λ rest. played_on record_depth (engine_of (λ t. table_meaning t.memory.now t.kept t.last) c.perform.new.engine) (c.args.number + 1) (parsed_lines rest))
     (λ rest. played c.args.number (line.Call c.args.first ∷ parsed_lines rest))
     c.in_ok-perform.ensures.writes
     c.play_on.ensures
@@ -36,8 +36,8 @@ returns-in_err-perform g c =
     (g.R.Read.remaining c.args.input.now)
     (g.W.Write.contents c.args.output.now)
     (g.W.Write.contents c.perform.new.output)
-    (result_line (request_text c.args.first) (shown_result (performed table_depth c.args.first.call (engine_of meaning_of c.new-engine.result)).0))
-    (λ rest. played_on table_depth (performed table_depth c.args.first.call (engine_of meaning_of c.new-engine.result)).1 (c.args.number + 1) (parsed_lines rest))
+    (result_line (request_text c.args.first) (shown_result (performed record_depth c.args.first.call (engine_of (λ t. table_meaning t.memory.now t.kept t.last) c.new-engine.result)).0))
+    (λ rest. played_on record_depth (performed record_depth c.args.first.call (engine_of (λ t. table_meaning t.memory.now t.kept t.last) c.new-engine.result)).1 (c.args.number + 1) (parsed_lines rest))
     (λ rest. played c.args.number (line.Call c.args.first ∷ parsed_lines rest))
     failed
     c.in_err-perform.ensures.writes

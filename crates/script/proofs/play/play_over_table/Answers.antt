@@ -2,8 +2,8 @@
 use Rattle.std.proofs.Common.{◌≡◌, ◌+◌, ◌∷◌, min, Err, refl, rules}
 use Rattle.engine.specs.Engines.{engine_of}
 use Rattle.snapshot.specs.Limits.{most_records}
-use Rattle.table_store.specs.Stores.{meaning_of}
-use Rattle.table_store.specs.Tables.{table_depth}
+use Rattle.records.specs.Layouts.{record_depth}
+use Rattle.record_store.specs.Tables.{table_meaning}
 use Rattle.script.specs.Played.{over_table, played, played_on, parsed_lines, result_line}
 use Rattle.script.specs.Shown.{store_text}
 use Rattle.script.specs.declared.line.Line.TheVariants as line
@@ -21,7 +21,7 @@ returns g c =
     (g.W.Write.contents c.write_outcome.new.output)
     (g.W.Write.contents c.play_on.new.output)
     (result_line (store_text (Table c.args.records)) c.checked.result.0)
-    (λ rest. played_on table_depth (engine_of meaning_of c.new-2.result) (c.args.number + 1) (parsed_lines rest))
+    (λ rest. played_on record_depth (engine_of (λ t. table_meaning t.memory.now t.kept t.last) c.new-2.result) (c.args.number + 1) (parsed_lines rest))
     (λ rest. played c.args.number (line.Store (Table c.args.records) ∷ parsed_lines rest))
     c.in_ok-write_outcome.ensures
     c.play_on.ensures
@@ -38,7 +38,7 @@ returns-in_err-write_outcome g c =
     (g.W.Write.contents c.args.output.now)
     (g.W.Write.contents c.write_outcome.new.output)
     (result_line (store_text (Table c.args.records)) c.checked.result.0)
-    (λ rest. played_on table_depth (over_table (min c.args.records most_records)) (c.args.number + 1) (parsed_lines rest))
+    (λ rest. played_on record_depth (over_table (min c.args.records most_records)) (c.args.number + 1) (parsed_lines rest))
     (λ rest. played c.args.number (line.Store (Table c.args.records) ∷ parsed_lines rest))
     failed
     c.in_err-write_outcome.ensures
