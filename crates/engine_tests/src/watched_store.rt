@@ -1,7 +1,5 @@
 // A newest store that notes which calls are made of it.
-ghost use Rattle.std.specs.Prelude.{◌≡◌, OnErr};
 ghost use Rattle.std.proofs.Common.{lit≤};
-ghost use Rattle.store.specs.Meaning.{commit_answer, after_commit, after_prune};
 ghost use Rattle.newest_store.specs.Newest.{newest_meaning};
 
 use newest_store::newest::Newest;
@@ -98,30 +96,31 @@ impl Reads for Watched<'_> {
 }
 
 impl Store for Watched<'_> {
-    ghost depth = { 1 };
+    ghost DEPTH = { 1 };
 
     ghost not_none = { lit≤ tt };
 
     const DEPTH: usize = 1;
 
-    fn most_versions() -> usize
-        ensures { result ≡ 1 }
-    {
-        1
-    }
+    // no memory is lent
+    ghost Memory = { Unit {0} };
 
-    fn commit(&mut self, clock: u64, writes: &[Write]) -> Result<u64, Fault>
-        ensures answer { result ≡ commit_answer 1 clock writes.now (newest_meaning self.old.store) }
-        ensures after { newest_meaning self.new.store ≡ after_commit 1 clock writes.now (newest_meaning self.old.store) }
-        ensures unchanged { OnErr result (self.new ≡ self.old) }
-    {
+    ghost memory = { λ w. tt };
+
+    ghost Loan = { Unit {0} };
+
+    ghost loan = { λ w. tt };
+
+    ghost Holds = { λ l m h. Unit {0} };
+
+    ghost holds = { λ w. tt };
+
+    fn commit(&mut self, clock: u64, writes: &[Write]) -> Result<u64, Fault> {
         self.note(commit_query(clock, writes));
         self.store.commit(clock, writes)
     }
 
-    fn prune(&mut self, horizon: u64)
-        ensures after { newest_meaning self.new.store ≡ after_prune horizon (newest_meaning self.old.store) }
-    {
+    fn prune(&mut self, horizon: u64) {
         self.note(Query::Prune { horizon });
         self.store.prune(horizon);
     }
