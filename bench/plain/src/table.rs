@@ -7,10 +7,11 @@ use crate::write_set::WriteSet;
 use crate::{KEYS, LEAST_RECORDS, MOST_RECORDS};
 
 #[derive(Clone, Copy, Default, PartialEq, Eq, Debug)]
+#[repr(C)]
 pub struct Record {
-    pub key: u8,
     pub timestamp: u64,
     pub value: u32,
+    pub key: u8,
 }
 
 const DEPTH: u8 = 16;
