@@ -40,15 +40,26 @@ moved_tidy mem mem' start end to n is down rising within behind e =
     in
     ap (list_all is_zero) there ∙ e
 
+-- what is filled is as long as the part
+part_length : (mem ys : List Record) (start end : ℕ) → start ≤ end → end ≤ length mem → ys ≡ replicate (length (take (end - start) (drop start mem))) no_record → length ys ≡ end - start
+part_length mem ys start end rising within is =
+    let part = drop start mem in
+    ap length is
+    ∙ length-replicate (length (take (end - start) part)) no_record
+    ∙ length-take-le (end - start) part (omega (arith, length-drop start mem, within, rising))
+
+pub cleared_rest : (mem ys : List Record) (start end : ℕ) → start ≤ end → end ≤ length mem → ys ≡ replicate (length (take (end - start) (drop start mem))) no_record → drop end (put_mid start (end - start) mem ys) ≡ drop end mem
+cleared_rest mem ys start end rising within is =
+    drop-put_mid start (end - start) mem ys end (omega (arith, rising)) (omega (arith, rising, within)) (part_length mem ys start end rising within is)
+
 pub cleared_tidy : (mem ys : List Record) (start end : ℕ) → start ≤ end → end ≤ length mem → ys ≡ replicate (length (take (end - start) (drop start mem))) no_record → zeros_after mem end ≡ true → zeros_after (put_mid start (end - start) mem ys) start ≡ true
 cleared_tidy mem ys start end rising within is e =
     let n = end - start in
     let mem' = put_mid start n mem ys in
     let whole : start + n ≡ end = omega (arith, rising) in
-    let part : length (take n (drop start mem)) ≡ n = length-take-le n (drop start mem) (omega (arith, length-drop start mem, within, rising)) in
-    let long : length ys ≡ n = ap length is ∙ length-replicate (length (take n (drop start mem))) no_record ∙ part in
+    let long = part_length mem ys start end rising within is in
     let front : take end mem' ≡ take start mem ++ ys = take-put_mid start n mem ys end (omega (arith, whole, long)) (omega (arith, rising, within)) in
-    let back : drop end mem' ≡ drop end mem = drop-put_mid start n mem ys end (omega (arith, whole)) (omega (arith, rising, within)) long in
+    let back = cleared_rest mem ys start end rising within is in
     let first : length (take start mem) ≡ start = length-take-le start mem (omega (arith, rising, within)) in
     let behind : drop start mem' ≡ ys ++ drop end mem =
     ap (drop start) (sym (take-append-drop end mem') ∙ ap (λ xs. xs ++ drop end mem') front ∙ ap (λ xs. (take start mem ++ ys) ++ xs) back ∙ append_assoc (take start mem) ys (drop end mem))

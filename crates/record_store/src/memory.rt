@@ -1,5 +1,5 @@
 // Memory that holds a list of records, whatever it is made of.
-ghost use Rattle.std.specs.Prelude.{◌≡◌, ℕ, ◌+◌, ◌-◌, ◌≤◌, ◌<◌, Bool, true, List, length, take, slice_set, slice_index_or};
+ghost use Rattle.std.specs.Prelude.{◌≡◌, ℕ, ◌+◌, ◌-◌, ◌≤◌, ◌<◌, Bool, true, List, length, take, drop, replicate, slice_set, slice_index_or};
 ghost use Rattle.std.specs.List.{copy_within};
 ghost use Rattle.snapshot.specs.Limits.{key_count, most_records};
 ghost use Rattle.records.specs.Records.{no_record};
@@ -65,13 +65,15 @@ pub trait RecordMemory {
         requires rising { start ≤ end }
         requires within { end ≤ length (records self.old) }
         ensures front { take start (records self.new) ≡ take start (records self.old) }
+        ensures cleared { take (end - start) (drop start (records self.new)) ≡ replicate (end - start) no_record }
+        ensures rest { drop end (records self.new) ≡ drop end (records self.old) }
         ensures size { length (records self.new) ≡ length (records self.old) }
         ensures tidy { tidy self.old end ≡ true → tidy self.new start ≡ true }
         ensures same { (name self.new ≡ name self.old) × (fit self.new ≡ fit self.old) };
 
     // Leaves nothing anywhere.
     fn erase(&mut self)
-        ensures size { length (records self.new) ≡ length (records self.old) }
+        ensures value { records self.new ≡ replicate (length (records self.old)) no_record }
         ensures tidy { tidy self.new 0 ≡ true }
         ensures same { (name self.new ≡ name self.old) × (fit self.new ≡ fit self.old) };
 
