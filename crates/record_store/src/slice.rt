@@ -49,18 +49,22 @@ impl RecordMemory for &mut [Record] {
         self[place]
     }
 
+    #[tactic(auto, using(crate::proofs::Zeros::put_tidy))]
     fn put(&mut self, place: usize, new: Record) {
         self[place] = new;
     }
 
+    #[tactic(auto, using(crate::proofs::Zeros::moved_tidy))]
     fn move_down(&mut self, start: usize, end: usize, to: usize) {
         self.copy_within(start..end, to);
     }
 
+    #[tactic(auto, using(crate::proofs::Zeros::cleared_rest, crate::proofs::Zeros::cleared_tidy))]
     fn clear(&mut self, start: usize, end: usize) {
         self[start..end].fill(NO_RECORD);
     }
 
+    #[tactic(auto, using(crate::proofs::Zeros::zeroed))]
     fn erase(&mut self) {
         self.fill(NO_RECORD);
     }
