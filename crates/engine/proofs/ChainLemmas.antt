@@ -7,8 +7,7 @@ use Rattle.snapshot.specs.Intervals.{from_to}
 use Rattle.snapshot.specs.Limits.{leg_count}
 use Rattle.snapshot.specs.declared.fault.EngineFault.{EngineFault}
 use Rattle.engine_parts.proofs.ItemLemmas.{item_set, item_there, item_past, item_pushed}
-use Rattle.engine_parts.specs.Lists.{elements_of, item_at}
-use Rattle.engine_parts.specs.declared.list.BoundedList.{BoundedList}
+use Rattle.engine_parts.specs.Lists.{item_at}
 use Rattle.engine_model.specs.declared.records.LegReading.{LegReading}
 use Rattle.engine_model.specs.Updates.{with_at}
 use Rattle.engine_model.specs.Steps.{only_open}
@@ -82,7 +81,7 @@ leg_opened c o new lt is =
 
 -- a chain of no legs and no readings
 pub none_opened :
-    (legs : List Leg) (readings : BoundedList LegReading 32) → elements_of readings ≡ [] →
+    (legs : List Leg) (readings : List LegReading) → readings ≡ [] →
     chain_of (record { legs = legs; opened = 0; readings = readings }) ≡ model.no_legs
 none_opened legs readings none =
     let C : (ℕ → model.LegState) → List LegReading → model.Chain = λ f rs. record { legs = f; opened = 0; readings = rs } in

@@ -1,7 +1,7 @@
 -- What a commit leaves: its caller's lists and the engine; and the law of its account.
 use Rattle.std.proofs.Common.{◌≡◌, ℕ, ◌+◌, ◌<◌, ◌≤◌, true, ◌&&◌, List, [], ◌∷◌, ◌++◌, length, take, set, get_or, IfOk, Some, None, Ok, Err, Option, Result, refl, sym, ap, subst, Bool, false, if◌then◌else◌, nat_le, ◌∙◌, arith}
 use Rattle.std.specs.Result.{result_map_both}
-use Rattle.std.proofs.lemmas.List.{take_more, take_at, length-take-le, set-get_or}
+use Rattle.std.proofs.lemmas.List.{take_more, take_at, length-take-le}
 use Rattle.snapshot.specs.Accounts.{Account, head_of, account_of}
 use Rattle.snapshot.specs.Limits.{leg_count}
 use Rattle.snapshot.specs.Overwriting.{overwritten}
@@ -43,7 +43,6 @@ use Rattle.engine.specs.declared.state.State.{State}
 use Rattle.engine.specs.declared.leg.OpenLeg.{OpenLeg}
 use Rattle.engine.specs.declared.named.Named.{Named}
 use Rattle.engine.proofs.ChainSteps.{WithEngine}
-use Rattle.engine.proofs.EngineLemmas.{no_place, place_in}
 use Rattle.engine.proofs.CommitStep.{GivenToStore, commit_is_step, commit_made, account_made}
 
 -- The lists.
@@ -96,13 +95,12 @@ module _ (m : Meaning) (e : State) (p : ℕ) (within : p < length e.places) wher
   -- the place is free, and notices and store are others
   pub committed :
       (freed : Place) (notices : Notices) (store : Meaning) → chain_at freed ≡ None →
-      engine_over store (record e { places = set (set e.places p (place_in e p)) p freed; notices = notices })
+      engine_over store (record e { places = set e.places p freed; notices = notices })
       ≡ model.with_place p None (model.with_store store (model.with_notices (notices_of notices) (engine_over m e)))
   committed freed notices store is =
       let E : (ℕ → Option model.Chain) → model.Engine =
       λ f. record { places = f; caches = (engine_over m e).caches; notices = notices_of notices; store = store } in
-      ap (λ ps. engine_over store (record e { places = set ps p freed; notices = notices })) (set-get_or e.places p no_place)
-      ∙ ap E (item_set chain_at None e.places p freed within)
+      ap E (item_set chain_at None e.places p freed within)
       ∙ ap (λ x. E (with_at p x (engine_over m e).places)) is
 
 -- The step.

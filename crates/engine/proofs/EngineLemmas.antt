@@ -1,12 +1,13 @@
 -- What stands at a place of an engine, and what a change of one chain, cache or place is to the engine.
-use Rattle.std.proofs.Common.{◌≡◌, ℕ, ◌<◌, Bool, true, false, List, [], length, get_or, set, Some, None, Err, Option, Result, refl, ap, ◌∙◌, sym, Ok}
+use Rattle.std.proofs.Common.{◌≡◌, ℕ, ◌<◌, Bool, true, false, List, [], ◌∷◌, length, get_or, set, Some, None, Err, Option, Result, ⊎_elim, refl, ap, ◌∙◌, sym, Ok}
 use Rattle.std.specs.Result.{result_and, result_map_both}
-use Rattle.std.proofs.lemmas.Bool.{cond-true, cond-false}
-use Rattle.std.proofs.lemmas.List.{set-get_or}
+use Rattle.std.proofs.lemmas.Bool.{cond-true, cond-false, cases_lt}
+use Rattle.std.proofs.lemmas.List.{set-get_or, get_or-replicate, get_or_past}
 use Rattle.snapshot.specs.Limits.{is_worker}
 use Rattle.snapshot.specs.declared.fault.EngineFault.{EngineFault}
 use Rattle.snapshot.specs.declared.fault.Refusal.TheVariants.{OutOfRange}
 use Rattle.store.specs.Meaning.{Meaning}
+use Rattle.engine_parts.specs.Lists.{item_at}
 use Rattle.engine_parts.specs.Caches.{caches_of}
 use Rattle.engine_parts.specs.WaitingNotices.{notices_of}
 use Rattle.engine_parts.specs.declared.notices.Notices.{Notices}
@@ -90,12 +91,23 @@ worker_is n w r x found is = worker_passes n (is_worker w) w r x found is
 
 -- Places.
 
--- stands past the end of a list of places, and is never looked at
-abbrev pub no_place : Place
-no_place = record { is_taken = false; chain = record { legs = []; opened = 0; readings = record { items = []; len = 0 } } }
+-- four places without a chain
+pub no_chains :
+    (a b c d : Place) → chain_at a ≡ None → chain_at b ≡ None → chain_at c ≡ None → chain_at d ≡ None →
+    (p : ℕ) → item_at chain_at None (a ∷ b ∷ c ∷ d ∷ []) p ≡ None
+no_chains a b c d none_a none_b none_c none_d p =
+    let nones : List (Option model.Chain) = None ∷ None ∷ None ∷ None ∷ [] in
+    let L : Option model.Chain → Option model.Chain → Option model.Chain → Option model.Chain → Option model.Chain =
+    λ w x y z. get_or (w ∷ x ∷ y ∷ z ∷ []) p None in
+    ap (λ w. L w (chain_at b) (chain_at c) (chain_at d)) none_a
+    ∙ ap (λ x. L None x (chain_at c) (chain_at d)) none_b
+    ∙ ap (λ y. L None None y (chain_at d)) none_c
+    ∙ ap (L None None None) none_d
+    ∙ ⊎_elim (λ lt. get_or-replicate 4 p None None lt) (λ le. get_or_past nones p None le) (cases_lt p 4)
 
-abbrev pub place_in : State → ℕ → Place
-place_in e p = get_or e.places p no_place
+-- the place of a number; d is never looked at
+abbrev pub place_in : Place → State → ℕ → Place
+place_in d e p = get_or e.places p d
 
 pub taken : (here : Place) → here.is_taken ≡ true → chain_at here ≡ Some (chain_of here.chain)
 taken here is = cond-true here.is_taken (Some (chain_of here.chain)) None is
@@ -103,16 +115,16 @@ taken here is = cond-true here.is_taken (Some (chain_of here.chain)) None is
 pub not_taken : (here : Place) → here.is_taken ≡ false → chain_at here ≡ None
 not_taken here is = cond-false here.is_taken (Some (chain_of here.chain)) None is
 
-module _ (m : Meaning) (e : State) (p : ℕ) (within : p < length e.places) where
+module _ (m : Meaning) (e : State) (p : ℕ) (d : Place) (within : p < length e.places) where
   -- what stands at a place
-  stands_at : (engine_over m e).places p ≡ chain_at (place_in e p)
-  stands_at = item_there chain_at None e.places p no_place within
+  stands_at : (engine_over m e).places p ≡ chain_at (place_in d e p)
+  stands_at = item_there chain_at None e.places p d within
 
-  pub stands : (place_in e p).is_taken ≡ true → (engine_over m e).places p ≡ Some (chain_of (place_in e p).chain)
-  stands is = stands_at ∙ taken (place_in e p) is
+  pub stands : (place_in d e p).is_taken ≡ true → (engine_over m e).places p ≡ Some (chain_of (place_in d e p).chain)
+  stands is = stands_at ∙ taken (place_in d e p) is
 
-  pub nothing_there : (place_in e p).is_taken ≡ false → (engine_over m e).places p ≡ None
-  nothing_there is = stands_at ∙ not_taken (place_in e p) is
+  pub nothing_there : (place_in d e p).is_taken ≡ false → (engine_over m e).places p ≡ None
+  nothing_there is = stands_at ∙ not_taken (place_in d e p) is
 
   -- another chain, or none, stands there
   pub place_set :
@@ -127,15 +139,15 @@ module _ (m : Meaning) (e : State) (p : ℕ) (within : p < length e.places) wher
   -- what a call makes of the chain there, it makes of the engine
   pub called :
       {X : Type 0} (r : Result X EngineFault) (after : Chain) (made : WithChain X) (step : WithEngine X) →
-      (place_in e p).is_taken ≡ true → IsStepOf (engine_over m e) p made step → ◌≡◌ {A = WithChain X} (r, chain_of after) made →
-      ◌≡◌ {A = WithEngine X} (r, engine_over m (record e { places = set e.places p (record (place_in e p) { chain = after }) })) step
+      (place_in d e p).is_taken ≡ true → IsStepOf (engine_over m e) p made step → ◌≡◌ {A = WithChain X} (r, chain_of after) made →
+      ◌≡◌ {A = WithEngine X} (r, engine_over m (record e { places = set e.places p (record (place_in d e p) { chain = after }) })) step
   called {X} r after made step is_taken lift is =
-      let here : Place = record (place_in e p) { chain = after } in
+      let here : Place = record (place_in d e p) { chain = after } in
       ap (λ s. let t : WithEngine X = (r, s) in t) (place_set here (Some (chain_of after)) (taken here is_taken)) ∙ lift r (chain_of after) is
 
   -- a place that was looked at and left
-  pub left : engine_over m (record e { places = set e.places p (place_in e p) }) ≡ engine_over m e
-  left = ap (λ ps. engine_over m (record e { places = ps })) (set-get_or e.places p no_place)
+  pub left : engine_over m (record e { places = set e.places p (place_in d e p) }) ≡ engine_over m e
+  left = ap (λ ps. engine_over m (record e { places = ps })) (set-get_or e.places p d)
 
 -- An answer, or an engine, in the place of one that is the same.
 
@@ -157,39 +169,39 @@ pub refused_out :
 refused_out {X} s ok r f g next is same failed =
     answered s r (Err g) _ (is ∙ ap Err same) (out_of_range ok g next s failed)
 
-module _ (m : Meaning) (e : State) (p : ℕ) (within : p < length e.places) where
+module _ (m : Meaning) (e : State) (p : ℕ) (d : Place) (within : p < length e.places) where
   pub refused_missing :
       {X : Type 0} (ok : Bool) (f g h : EngineFault) (l : ℕ) (next : model.Chain → model.OpenLeg → StepOutcome X) → f ≡ h →
-      ok ≡ true → (place_in e p).is_taken ≡ false →
+      ok ≡ true → (place_in d e p).is_taken ≡ false →
       ◌≡◌ {A = WithEngine X}
-      (Err f, engine_over m (record e { places = set e.places p (place_in e p) }))
+      (Err f, engine_over m (record e { places = set e.places p (place_in d e p) }))
       (answer_and_engine (engine_over m e) (check ok g (with_open_leg ((engine_over m e).places p) l h next)))
   refused_missing {X} ok f g h l next same passed none =
       let s = engine_over m e in
-      left_after _ s (Err f) _ (left m e p within)
-      (answered s (Err f) (Err h) _ (ap Err same) (no_chain ok g (s.places p) l h next s passed (nothing_there m e p within none)))
+      left_after _ s (Err f) _ (left m e p d within)
+      (answered s (Err f) (Err h) _ (ap Err same) (no_chain ok g (s.places p) l h next s passed (nothing_there m e p d within none)))
 
   pub refused_at_all :
       {X : Type 0} (ok : Bool) (f g h : EngineFault) (next : model.Chain → StepOutcome X) → f ≡ h → ok ≡ true →
-      (place_in e p).is_taken ≡ false →
+      (place_in d e p).is_taken ≡ false →
       ◌≡◌ {A = WithEngine X}
-      (Err f, engine_over m (record e { places = set e.places p (place_in e p) }))
+      (Err f, engine_over m (record e { places = set e.places p (place_in d e p) }))
       (answer_and_engine (engine_over m e) (check ok g (with_chain ((engine_over m e).places p) h next)))
   refused_at_all {X} ok f g h next same passed none =
       let s = engine_over m e in
-      left_after _ s (Err f) _ (left m e p within)
-      (answered s (Err f) (Err h) _ (ap Err same) (no_chain_at_all ok g (s.places p) h next s passed (nothing_there m e p within none)))
+      left_after _ s (Err f) _ (left m e p d within)
+      (answered s (Err f) (Err h) _ (ap Err same) (no_chain_at_all ok g (s.places p) h next s passed (nothing_there m e p d within none)))
 
   -- another chain stands there, and the caches are others
   pub read_called :
-      (r : Result ℕ EngineFault) (after : Chain) (caches : List model_caches.Cache) (step : WithEngine ℕ) → (place_in e p).is_taken ≡ true →
+      (r : Result ℕ EngineFault) (after : Chain) (caches : List model_caches.Cache) (step : WithEngine ℕ) → (place_in d e p).is_taken ≡ true →
       ◌≡◌ {A = WithEngine ℕ} (r, with_caches (engine_over m e) p (chain_of after, caches_of caches)) step →
       ◌≡◌ {A = WithEngine ℕ}
-      (r, engine_over m (record e { places = set e.places p (record (place_in e p) { chain = after }); caches = caches }))
+      (r, engine_over m (record e { places = set e.places p (record (place_in d e p) { chain = after }); caches = caches }))
       step
   read_called r after caches step is_taken is =
       let s = engine_over m e in
-      let here : Place = record (place_in e p) { chain = after } in
+      let here : Place = record (place_in d e p) { chain = after } in
       let E : (ℕ → Option model.Chain) → WithEngine ℕ =
       λ f. (r, record { places = f; caches = caches_of caches; notices = s.notices; store = s.store }) in
       ap E (item_set chain_at None e.places p here within)

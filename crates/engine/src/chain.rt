@@ -4,7 +4,6 @@ ghost use Rattle.std.specs.Result.{result_map_both};
 ghost use Rattle.std.specs.Prelude.{◌≡◌, ◌<◌, ◌≤◌, length, map, Ok, OnOk, OnErr, OnSome, nat_lt};
 ghost use Rattle.snapshot.specs.Limits.{chain_readings, leg_count};
 ghost use Rattle.engine_model.specs.Engines as model;
-ghost use Rattle.engine_parts.specs.Lists.{elements_of};
 ghost use Rattle.engine_parts.specs.Caches.{caches_of};
 ghost use Rattle.engine.specs.ChainCalls.{after_hand, after_fork, after_join, after_write, further_reading, after_read};
 ghost use Rattle.engine.specs.Chains.{chain_of};
@@ -17,9 +16,9 @@ ghost use Rattle.engine.specs.Workers.{worker_number};
 use crate::leg::{Leg, OpenLeg};
 use crate::named::Named;
 use crate::worker::Worker;
-use engine_model::records::{CacheEntry, LegAndKey, LegReading};
+use engine_model::records::{CacheEntry, LegReading};
 use engine_parts::cache::{CACHES, Cache};
-use engine_parts::list::BoundedList;
+use engine_parts::readings::Readings;
 use engine_parts::write_set::WriteSet;
 use snapshot::account::{AccountHead, ChainReading, Reading, Write};
 use snapshot::fault::{EngineFault, Fault, Refusal};
@@ -38,11 +37,11 @@ pub(crate) struct Room {
 }
 
 // The legs, how many have been opened, and the readings of all of them.
-#[derive(Clone, Copy)]
+#[derive(Drop)]
 pub(crate) struct Chain {
     legs: [Leg; ALL_LEGS],
     opened: u8,
-    readings: BoundedList<LegReading, CHAIN_READINGS>,
+    readings: Readings,
 }
 
 impl Chain {
@@ -51,7 +50,7 @@ impl Chain {
         Chain {
             legs: [Leg::blank(); ALL_LEGS],
             opened: 0,
-            readings: BoundedList::new(),
+            readings: Readings::new(),
         }
     }
 
@@ -181,7 +180,7 @@ impl Chain {
         if let Some(value) = open.writes.value_of(key) {
             return Ok(value);
         }
-        if let Some(own) = self.readings.with_key(LegAndKey { leg, key }) {
+        if let Some(own) = self.readings.own(leg, key) {
             return Ok(own.made.reading.value);
         }
         if !self.has_room() {
@@ -282,7 +281,7 @@ impl Chain {
     // Narrows the leg that made a reading, and adds the reading to those of the chain.
     fn note(&mut self, reading: LegReading)
         requires within { (reading.leg < 16) × (reading.leg < self.old.opened) }
-        requires room { length (elements_of self.old.readings) < 32 }
+        requires room { length self.old.readings < 32 }
         ensures { chain_of self.new ≡ model.add_reading reading (model.with_leg reading.leg (leg_narrowed reading.made.reading ((chain_of self.old).legs reading.leg)) (chain_of self.old)) }
     {
         let LegReading { leg, made } = reading;
@@ -344,10 +343,10 @@ impl Chain {
 
     // Adds a reading to those of the chain, if there is room.
     fn add_reading(&mut self, reading: LegReading)
-        requires { length (elements_of self.old.readings) < 32 }
+        requires { length self.old.readings < 32 }
         ensures { chain_of self.new ≡ model.add_reading reading (chain_of self.old) }
     {
-        let _ = self.readings.push(reading);
+        self.readings.add(reading);
     }
 }
 

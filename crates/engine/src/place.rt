@@ -1,13 +1,18 @@
 // A place for a chain. It keeps the chain's memory when it is free, for the next chain that begins there.
-ghost use Rattle.std.specs.Prelude.{◌≡◌, Some, None};
+ghost use Rattle.std.specs.Prelude.{◌≡◌, ℕ, Some, None};
 ghost use Rattle.engine_model.specs.Engines.{new_chain};
+ghost use Rattle.engine_parts.specs.Lists.{item_at};
 ghost use Rattle.engine.specs.Places.{chain_at};
 ghost use Rattle.engine.specs.Workers.{worker_number};
 
 use crate::chain::Chain;
 use crate::worker::Worker;
+use snapshot::limits::PLACES;
 
-#[derive(Clone, Copy)]
+// How many chains can be open at a time.
+pub(crate) const ALL_PLACES: usize = PLACES as usize;
+
+#[derive(Drop)]
 pub(crate) struct Place {
     pub(crate) is_taken: bool,
     pub(crate) chain: Chain,
@@ -38,4 +43,11 @@ impl Place {
     {
         self.is_taken = false;
     }
+}
+
+// The places of a new engine.
+pub(crate) fn free_places() -> [Place; ALL_PLACES]
+    ensures { (p : ℕ) → item_at chain_at None result p ≡ None }
+{
+    [Place::new(), Place::new(), Place::new(), Place::new()]
 }

@@ -18,17 +18,14 @@ ghost use Rattle.engine.specs.Engines.{engine_over, StepsOver, StepsOverAny, Com
 
 use crate::chain::Room;
 use crate::named::Named;
-use crate::place::Place;
+use crate::place::{ALL_PLACES, Place, free_places};
 use engine_model::records::Notice;
-use engine_parts::cache::{CACHES, Cache};
+use engine_parts::cache::{CACHES, Cache, empty_caches};
 use engine_parts::notices::Notices;
 use snapshot::account::{AccountHead, ChainReading, Write};
 use snapshot::fault::{EngineFault, Fault, Layer, Refusal};
-use snapshot::limits::{PLACES, is_leg, is_worker};
+use snapshot::limits::{is_leg, is_worker};
 use store::traits::{Reads, Store};
-
-// How many chains can be open at a time.
-const ALL_PLACES: usize = PLACES as usize;
 
 // The chain at each place, the cache of each worker, and the notices.
 #[derive(Drop)]
@@ -44,8 +41,8 @@ impl State {
         ensures { (m : Meaning) → engine_over m result ≡ model.new_engine m }
     {
         State {
-            places: [Place::new(); ALL_PLACES],
-            caches: std::array::from_fn(|_| Cache::new()),
+            places: free_places(),
+            caches: empty_caches(),
             notices: Notices::new(),
         }
     }
@@ -187,7 +184,7 @@ impl State {
         if !here.is_taken {
             return Err(named.refused(Refusal::NotOpen));
         }
-        let leg = here.chain.committing_leg(named, room)?;
+        let leg = *here.chain.committing_leg(named, room)?;
         match give_to_store(
             store,
             &mut self.notices,
@@ -196,7 +193,8 @@ impl State {
             leg.writes.as_slice(),
         ) {
             Ok(timestamp) => {
-                let head = here.chain.account(leg, timestamp, readings, writes);
+                let here = &self.places[named.place as usize];
+                let head = here.chain.account(&leg, timestamp, readings, writes);
                 self.places[named.place as usize].free();
                 Ok(head)
             }

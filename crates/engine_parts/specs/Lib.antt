@@ -1,4 +1,5 @@
 pub mod Lists
 pub mod Caches
+pub mod KeysRead
 pub mod WriteSets
 pub mod WaitingNotices

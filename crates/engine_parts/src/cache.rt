@@ -1,6 +1,7 @@
 // A worker's cache: at most eight entries, one for a key, in the order of their use.
-ghost use Rattle.std.specs.Prelude.{◌≡◌, [], ◌∷◌, ◌++◌, remove};
+ghost use Rattle.std.specs.Prelude.{◌≡◌, ℕ, [], ◌∷◌, ◌++◌, remove};
 ghost use Rattle.engine_model.specs.Caches as model;
+ghost use Rattle.engine_parts.specs.Caches.{caches_of};
 
 use crate::list::BoundedList;
 use engine_model::records::{CacheEntry, Notice};
@@ -145,6 +146,22 @@ impl Cache {
             self.counts[usize::from(first.key)] -= 1;
         }
     }
+}
+
+// The caches of all workers, without entries.
+pub fn empty_caches() -> [Cache; CACHES]
+    ensures { (w : ℕ) → caches_of result w ≡ [] }
+{
+    [
+        Cache::new(),
+        Cache::new(),
+        Cache::new(),
+        Cache::new(),
+        Cache::new(),
+        Cache::new(),
+        Cache::new(),
+        Cache::new(),
+    ]
 }
 
 // What a notice makes of a reading.

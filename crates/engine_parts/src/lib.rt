@@ -1,7 +1,8 @@
-// What an engine is made of: lists of bounded length, caches, write sets, and the list of notices.
+// What an engine is made of: lists of bounded length, caches, write sets, readings, and the list of notices.
 #![tactic(auto)]
 
 pub mod cache;
 pub mod list;
 pub mod notices;
+pub mod readings;
 pub mod write_set;

@@ -20,17 +20,19 @@ pub returns-then-not-here-clause-step : goal.returns-then-not-here-clause-step
 returns-then-not-here-clause-step c m depth =
     let e = c.args.self.now in
     let p = c.args.place in
+    let d = c.index-self-place.result in
     let place = passed place_in_range _ _ _ _ c.place-named.ensures c.check_place.ensures c.in_ok-check_place.was in
     let within : p < length e.places = grind (arith, nat_tests) in
-    refused_at_all m e p within _ _ _ _ _ (c.refused.ensures ∙ ap (λ n. chain_fault n.place n.leg n.key NotOpen) c.place-named.ensures) place (search rules)
+    refused_at_all m e p d within _ _ _ _ _ (c.refused.ensures ∙ ap (λ n. chain_fault n.place n.leg n.key NotOpen) c.place-named.ensures) place (search rules)
 
 pub returns-clause-step : goal.returns-clause-step
 returns-clause-step c m depth =
     let e = c.args.self.now in
     let p = c.args.place in
+    let d = c.index-self-place.result in
     let s = engine_over m e in
     let place = passed place_in_range _ _ _ _ c.place-named.ensures c.check_place.ensures c.in_ok-check_place.was in
     let within : p < length e.places = grind (arith, nat_tests) in
-    let there = stands m e p within (search rules) in
-    left_after _ _ _ _ (place_set m e p within c.free.new.self _ c.free.ensures)
-    (abandon_is_step depth p s (chain_of (place_in e p).chain) place there)
+    let there = stands m e p d within (search rules) in
+    left_after _ _ _ _ (place_set m e p d within c.free.new.self _ c.free.ensures)
+    (abandon_is_step depth p s (chain_of (place_in d e p).chain) place there)

@@ -28,26 +28,28 @@ pub returns-then-here-clause-step : goal.returns-then-here-clause-step
 returns-then-here-clause-step c m depth =
     let e = c.args.self.now in
     let p = c.args.place in
+    let d = c.index-self-place.result in
     let s = engine_over m e in
     let place = passed place_in_range _ _ _ _ c.place-named.ensures c.check_place.ensures c.in_ok-check_place.was in
     let worker = worker_is _ c.args.worker _ _ c.worker.ensures c.in_ok-worker.was in
     let range : (is_place p && is_worker c.args.worker) ≡ true = grind (arith, nat_tests) in
     let within : p < length e.places = grind (arith, nat_tests) in
-    let there = stands m e p within (search rules) in
-    left_after _ _ _ _ (left m e p within)
+    let there = stands m e p d within (search rules) in
+    left_after _ _ _ _ (left m e p d within)
     (answered s (Err _) (Err _) _
     (ap Err (c.refused.ensures ∙ ap (λ n. chain_fault n.place n.leg n.key PlaceOccupied) c.place-named.ensures))
-    (begin_is_refused depth p c.args.worker s (chain_of (place_in e p).chain) range there))
+    (begin_is_refused depth p c.args.worker s (chain_of (place_in d e p).chain) range there))
 
 pub returns-clause-step : goal.returns-clause-step
 returns-clause-step c m depth =
     let e = c.args.self.now in
     let p = c.args.place in
+    let d = c.index-self-place.result in
     let s = engine_over m e in
     let place = passed place_in_range _ _ _ _ c.place-named.ensures c.check_place.ensures c.in_ok-check_place.was in
     let worker = worker_is _ c.args.worker _ _ c.worker.ensures c.in_ok-worker.was in
     let range : (is_place p && is_worker c.args.worker) ≡ true = grind (arith, nat_tests) in
     let within : p < length e.places = grind (arith, nat_tests) in
-    let there = nothing_there m e p within (search rules) in
+    let there = nothing_there m e p d within (search rules) in
     let opened = c.begin.ensures ∙ ap (λ w. Some (model.new_chain w)) worker.1 in
-    left_after _ _ _ _ (place_set m e p within c.begin.new.self _ opened) (begin_is_step depth p c.args.worker s range there)
+    left_after _ _ _ _ (place_set m e p d within c.begin.new.self _ opened) (begin_is_step depth p c.args.worker s range there)

@@ -30,27 +30,29 @@ pub returns-then-not-here-clause-step : goal.returns-then-not-here-clause-step
 returns-then-not-here-clause-step c m depth =
     let e = c.args.self.now in
     let p = c.args.place in
+    let d = c.index-self-place.result in
     let leg = passed leg_in_range _ _ _ _ c.leg-named.ensures c.check_leg.ensures c.in_ok-check_leg.was in
     let worker = worker_is _ c.args.worker _ _ c.worker.ensures c.in_ok-worker.was in
     let within : p < length e.places = grind (arith, nat_tests) in
-    refused_missing m e p within _ _ _ _ _ _
+    refused_missing m e p d within _ _ _ _ _ _
     (c.refused.ensures ∙ ap (λ n. chain_fault n.place n.leg n.key NotOpen) c.leg-named.ensures) (grind (arith, nat_tests)) (search rules)
 
 pub returns-clause-step : goal.returns-clause-step
 returns-clause-step c m depth =
     let e = c.args.self.now in
     let p = c.args.place in
+    let d = c.index-self-place.result in
     let l = c.args.leg in
     let n = naming p l not_named in
     let w = worker_number c.in_ok-worker.worker in
-    let chain = (place_in e p).chain in
+    let chain = (place_in d e p).chain in
     let leg = passed leg_in_range _ _ _ _ c.leg-named.ensures c.check_leg.ensures c.in_ok-check_leg.was in
     let worker = worker_is _ c.args.worker _ _ c.worker.ensures c.in_ok-worker.was in
     let range : (is_place p && is_leg l && is_worker c.args.worker) ≡ true = grind (arith, nat_tests) in
     let within : p < length e.places = grind (arith, nat_tests) in
-    let is_taken : (place_in e p).is_taken ≡ true = search rules in
-    let there = stands m e p within is_taken in
-    called m e p within c.hand.result c.hand.new.self _ _ is_taken
+    let is_taken : (place_in d e p).is_taken ≡ true = search rules in
+    let there = stands m e p d within is_taken in
+    called m e p d within c.hand.result c.hand.new.self _ _ is_taken
     (hand_is_step depth p l c.args.worker (engine_over m e) (chain_of chain) range there)
     (c.hand.ensures.made
     ∙ ap (λ k. after_hand k w (chain_of chain)) c.leg-named.ensures

@@ -36,30 +36,32 @@ pub returns-then-not-here-clause-step : goal.returns-then-not-here-clause-step
 returns-then-not-here-clause-step c m depth =
     let e = c.args.self.now in
     let p = c.args.place in
+    let d = c.index-self-place.result in
     let leg = passed leg_in_range _ _ _ _ c.leg-named.ensures c.check_leg.ensures c.in_ok-check_leg.was in
     let second = passed (λ n. c.is_leg.result) _ _ _ _ c.leg-named.ensures c.check.ensures c.in_ok-check.was in
     let worker = worker_is _ c.args.worker _ _ c.worker.ensures c.in_ok-worker.was in
     let within : p < length e.places = grind (arith, nat_tests) in
-    refused_missing m e p within _ _ _ _ _ _
+    refused_missing m e p d within _ _ _ _ _ _
     (c.refused.ensures ∙ ap (λ n. chain_fault n.place n.leg n.key NotOpen) c.leg-named.ensures) (grind (arith, nat_tests)) (search rules)
 
 pub returns-clause-step : goal.returns-clause-step
 returns-clause-step c m depth =
     let e = c.args.self.now in
     let p = c.args.place in
+    let d = c.index-self-place.result in
     let l = c.args.first_leg in
     let j = c.args.second_leg in
     let n = naming p l not_named in
-    let chain = (place_in e p).chain in
+    let chain = (place_in d e p).chain in
     let w = worker_number c.in_ok-worker.worker in
     let leg = passed leg_in_range _ _ _ _ c.leg-named.ensures c.check_leg.ensures c.in_ok-check_leg.was in
     let second = passed (λ n. c.is_leg.result) _ _ _ _ c.leg-named.ensures c.check.ensures c.in_ok-check.was in
     let worker = worker_is _ c.args.worker _ _ c.worker.ensures c.in_ok-worker.was in
     let range : (is_place p && is_leg l && is_leg j && is_worker c.args.worker) ≡ true = grind (arith, nat_tests) in
     let within : p < length e.places = grind (arith, nat_tests) in
-    let is_taken : (place_in e p).is_taken ≡ true = search rules in
-    let there = stands m e p within is_taken in
-    called m e p within c.join.result c.join.new.self _ _ is_taken
+    let is_taken : (place_in d e p).is_taken ≡ true = search rules in
+    let there = stands m e p d within is_taken in
+    called m e p d within c.join.result c.join.new.self _ _ is_taken
     (join_is_step depth p l j c.args.worker (engine_over m e) (chain_of chain) range there)
     (c.join.ensures.made
     ∙ ap (λ k. after_join k j w (chain_of chain)) c.leg-named.ensures

@@ -19,22 +19,24 @@ pub returns-then-not-here-clause-step : goal.returns-then-not-here-clause-step
 returns-then-not-here-clause-step c m depth =
     let e = c.args.self.now in
     let p = c.args.place in
+    let d = c.index-self-place.result in
     let n = naming p c.args.leg c.args.key in
     let key = passed key_in_range n _ _ _ refl c.check_key.ensures c.in_ok-check_key.was in
     let within : p < length e.places = grind (arith, nat_tests) in
-    refused_missing m e p within _ _ _ _ _ _ c.refused.ensures (grind (arith, nat_tests)) (search rules)
+    refused_missing m e p d within _ _ _ _ _ _ c.refused.ensures (grind (arith, nat_tests)) (search rules)
 
 pub returns-clause-step : goal.returns-clause-step
 returns-clause-step c m depth =
     let e = c.args.self.now in
     let p = c.args.place in
+    let d = c.index-self-place.result in
     let n = naming p c.args.leg c.args.key in
-    let chain = (place_in e p).chain in
+    let chain = (place_in d e p).chain in
     let key = passed key_in_range n _ _ _ refl c.check_key.ensures c.in_ok-check_key.was in
     let range : (is_place p && is_leg c.args.leg && is_key c.args.key) ≡ true = grind (arith, nat_tests) in
     let within : p < length e.places = grind (arith, nat_tests) in
-    let is_taken : (place_in e p).is_taken ≡ true = search rules in
-    let there = stands m e p within is_taken in
-    called m e p within c.write.result c.write.new.self _ _ is_taken
+    let is_taken : (place_in d e p).is_taken ≡ true = search rules in
+    let there = stands m e p d within is_taken in
+    called m e p d within c.write.result c.write.new.self _ _ is_taken
     (write_is_step depth p c.args.leg c.args.key c.args.value (engine_over m e) (chain_of chain) range there)
     c.write.ensures.made
