@@ -346,7 +346,7 @@ impl Chain {
         requires { length self.old.readings < 32 }
         ensures { chain_of self.new ≡ model.add_reading reading (chain_of self.old) }
     {
-        self.readings.add(reading);
+        let _ = self.readings.push(reading);
     }
 }
 

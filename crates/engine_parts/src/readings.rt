@@ -1,5 +1,5 @@
 // A chain's readings in order, at most 32.
-ghost use Rattle.std.specs.Prelude.{◌≡◌, ◌<◌, ◌≤◌, false, [], ◌∷◌, ◌++◌, length};
+ghost use Rattle.std.specs.Prelude.{◌≡◌, ◌≤◌, false, if◌then◌else◌, [], ◌∷◌, ◌++◌, length, nat_lt};
 ghost use Rattle.engine_model.specs.Steps.{own_reading};
 ghost use Rattle.engine_parts.specs.KeysRead.{reads_key};
 
@@ -74,15 +74,18 @@ impl Readings {
         self.list.with_key(LegAndKey { leg, key })
     }
 
-    // Adds a reading at the end.
-    pub fn add(&mut self, reading: LegReading)
-        requires { length self.old < 32 }
-        ensures { self.new ≡ self.old ++ reading ∷ [] }
+    // Adds a reading at the end, and answers whether there was room.
+    pub fn push(&mut self, reading: LegReading) -> bool
+        ensures room { result ≡ nat_lt (length self.old) 32 }
+        ensures after { self.new ≡ (if result then self.old ++ reading ∷ [] else self.old) }
     {
-        let _ = self.list.push(reading);
+        if !self.list.push(reading) {
+            return false;
+        }
         if is_key(reading.made.key) {
             self.read[usize::from(reading.made.key)] = true;
         }
+        true
     }
 
     // Can there be a reading of the key?
