@@ -12,26 +12,26 @@ use snapshot::account::Write;
 use store::update::Update;
 
 // How many of `count` versions of a key go so that with one more there are no more than the depth.
-fn excess_of(count: usize, depth: usize) -> usize
+fn excess_of(count: u16, depth: u16) -> u16
     ensures { result ≡ count - (depth - 1) }
 {
     count.saturating_sub(depth.saturating_sub(1))
 }
 
 // How many versions the written keys drop together, so that none has more than the depth once they are written.
-pub(crate) fn total_excess(counts: &PerKey, update: Update, depth: usize) -> usize
+pub(crate) fn total_excess(counts: &PerKey, update: Update, depth: u16) -> usize
     requires few { (k : ℕ) → number_for counts.now k ≤ most_records }
     ensures { result ≡ total_of (λ k. excess_for depth (written_to k update.entry.writes.now) (number_for counts.now k)) }
 {
     let mut total = 0;
     for write in update.writes {
-        total += excess_of(counts.get(write.key), depth);
+        total += usize::from(excess_of(counts.get(write.key), depth));
     }
     total
 }
 
 // How many of its oldest versions each written key drops.
-pub(crate) fn excess_versions(counts: &PerKey, writes: &[Write], depth: usize) -> PerKey
+pub(crate) fn excess_versions(counts: &PerKey, writes: &[Write], depth: u16) -> PerKey
     ensures { (k : ℕ) → number_for result k ≡ excess_for depth (written_to k writes.now) (number_for counts.now k) }
 {
     let mut excess = PerKey::none();

@@ -91,7 +91,7 @@ impl<M: RecordMemory> RecordStore<M> {
         ensures excess { IfOk result (λ e. e ≡ total_of (λ k. excess_for record_depth (written_to k update.entry.writes.now) (number_for self.now.counts k))) }
         ensures room { IfOk result (λ e. length update.entry.writes.now + (self.now.kept - e) ≤ room_for (M.fit self.now.memory) (length (M.records self.now.memory))) }
     {
-        let excess = total_excess(&self.counts, update, Self::DEPTH);
+        let excess = total_excess(&self.counts, update, Self::DEPTH as u16);
         if self.room() - (self.kept - excess) < update.writes.len() {
             return Err(Fault::unnamed(Refusal::CapacityExceeded, Layer::Store));
         }
@@ -125,7 +125,7 @@ impl<M: RecordMemory> RecordStore<M> {
         ensures same { (M.name self.new.memory ≡ M.name self.old.memory) × (M.fit self.new.memory ≡ M.fit self.old.memory) }
     {
         if excess > 0 {
-            let numbers = excess_versions(&self.counts, writes, Self::DEPTH);
+            let numbers = excess_versions(&self.counts, writes, Self::DEPTH as u16);
             self.drop_oldest(numbers, excess);
         }
     }

@@ -1,5 +1,5 @@
 // A number for each of the 64 keys.
-ghost use Rattle.std.specs.Prelude.{◌≡◌, ℕ, ◌-◌, min, nat_lt};
+ghost use Rattle.std.specs.Prelude.{◌≡◌, ℕ, ◌-◌, nat_lt};
 ghost use Rattle.records.specs.PerKeys.{number_for, with, one_less, total_of};
 
 use snapshot::limits::{KEYS, is_key};
@@ -8,7 +8,7 @@ use snapshot::limits::{KEYS, is_key};
 #[derive(Clone, Copy)]
 pub struct PerKey {
     // `as`, since the length of an array calls no function
-    numbers: [usize; KEYS as usize],
+    numbers: [u16; KEYS as usize],
 }
 
 impl PerKey {
@@ -22,14 +22,14 @@ impl PerKey {
     }
 
     // The number for this key; 0 where there is no such key, which has none of anything.
-    pub fn get(&self, key: u8) -> usize
+    pub fn get(&self, key: u8) -> u16
         ensures { result ≡ number_for self.now key }
     {
         self.numbers.get(usize::from(key)).copied().unwrap_or(0)
     }
 
     // Gives the key this number; where there is no such key, nothing changes.
-    pub fn set(&mut self, key: u8, number: usize)
+    pub fn set(&mut self, key: u8, number: u16)
         ensures { (k : ℕ) → number_for self.new k ≡ with (number_for self.old) key number k }
     {
         // a test and an index: after a write through `get_mut` nothing is known of the other numbers
@@ -66,18 +66,19 @@ impl PerKey {
     {
         let mut fewer = *self;
         for key in 0..KEYS {
-            let _ = fewer.take_one(key);
+            let left = fewer.get(key).saturating_sub(1);
+            fewer.set(key, left);
         }
         fewer
     }
 
-    // The numbers of all keys together, or the greatest number that there is if they come to more.
+    // The numbers of all keys together.
     pub fn total(&self) -> usize
-        ensures { result ≡ min (total_of (number_for self.now)) 18446744073709551615 }
+        ensures { result ≡ total_of (number_for self.now) }
     {
         let mut total: usize = 0;
         for key in 0..KEYS {
-            total = total.saturating_add(self.get(key));
+            total += usize::from(self.get(key));
         }
         total
     }

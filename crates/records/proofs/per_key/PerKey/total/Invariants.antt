@@ -1,7 +1,11 @@
--- The total is that of the keys so far.
-use Rattle.std.proofs.Common.{◌≡◌, min}
+-- The total is that of the keys so far, none of which has more than a number of 16 bits.
+use Rattle.std.proofs.Common.{◌≡◌, ◌≤◌, ◌*◌}
 use Rattle.records.specs.PerKeys.{number_for, total_below}
 use Rattle.records.proofs.per_key.PerKey.total.Given as goal
 
 abbrev pub invariant-loop-key : goal.invariant-loop-key
-invariant-loop-key l = l.total ≡ min (total_below l.key (number_for l.self)) 18446744073709551615
+invariant-loop-key l =
+    record {
+      total : l.total ≡ total_below l.key (number_for l.self);
+      few : l.total ≤ l.key * 65535;
+    }
