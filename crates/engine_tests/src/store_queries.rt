@@ -14,14 +14,13 @@ use snapshot::fault::Refusal::{
     AnotherLegOpen, ClockTooHigh, NoTimeLeft, NotOpen, OutOfRange, ReadingsFull, TooShort,
 };
 use snapshot::limits::{KEYS, OPEN_END};
-use std::cell::Cell;
 use std::ops::Range;
 use std::process::Abort;
 use store::traits::Store;
 
 // An engine over a newest store that gave key 0 the value 100 at time 1, key 1 the value 101 at time 2, and so on for all
 // 64 keys.
-fn over_filled<'a>(rt: &impl Abort, queries: &'a Cell<Queries>) -> Engine<Watched<'a>> {
+fn over_filled(rt: &impl Abort) -> Engine<Watched> {
     let mut store = Newest::new();
     for key in 0..KEYS {
         let write = Write {
@@ -31,28 +30,20 @@ fn over_filled<'a>(rt: &impl Abort, queries: &'a Cell<Queries>) -> Engine<Watche
         let clock = u64::from(key) + 1;
         assert_eq!(rt; store.commit(clock, &[write]).ok(), Some(clock));
     }
-    Engine::new(Watched { store, queries })
+    Engine::new(Watched::new(store))
 }
 
 // An engine over a new store.
-fn over_new(queries: &Cell<Queries>) -> Engine<Watched> {
-    Engine::new(Watched {
-        store: Newest::new(),
-        queries,
-    })
+fn over_new() -> Engine<Watched> {
+    Engine::new(Watched::new(Newest::new()))
 }
 
 // The engine answers each call so, and makes exactly these calls of the store for it.
-fn queries_of(
-    rt: &impl Abort,
-    engine: &mut Engine<Watched>,
-    queries: &Cell<Queries>,
-    steps: &[(Call, Seen, Queries)],
-) {
+fn queries_of(rt: &impl Abort, engine: &mut Engine<Watched>, steps: &[(Call, Seen, Queries)]) {
     for (number, (call, answer, expected)) in steps.iter().enumerate() {
-        queries.set(NONE);
+        let _ = engine.store().queries();
         answers(rt, engine, &[(*call, *answer)]);
-        assert_eq!(rt; queries.get(), *expected, "call {number}");
+        assert_eq!(rt; engine.store().queries(), *expected, "call {number}");
     }
 }
 
@@ -74,11 +65,9 @@ fn reads_filled(
 
 #[test]
 fn read_queries_the_store_at_the_high_end_of_the_legs_interval(rt: HostRuntime) {
-    let queries = Cell::new(NONE);
     queries_of(
         &rt,
-        &mut over_filled(&rt, &queries),
-        &queries,
+        &mut over_filled(&rt),
         &[
             (begin(0, 0), Leg(0), NONE),
             (read(0, 0, 5), Value(105), version(5, OPEN_END)),
@@ -100,12 +89,10 @@ fn read_queries_the_store_at_the_high_end_of_the_legs_interval(rt: HostRuntime) 
 
 #[test]
 fn read_of_what_the_leg_wrote_or_read_and_a_refused_one_do_not_query_the_store(rt: HostRuntime) {
-    let queries = Cell::new(NONE);
-    let mut engine = over_filled(&rt, &queries);
+    let mut engine = over_filled(&rt);
     queries_of(
         &rt,
         &mut engine,
-        &queries,
         &[
             (read(0, 0, 5), refused(NotOpen, 0, 0, 5), NONE),
             (begin(0, 0), Leg(0), NONE),
@@ -119,7 +106,6 @@ fn read_of_what_the_leg_wrote_or_read_and_a_refused_one_do_not_query_the_store(r
     queries_of(
         &rt,
         &mut engine,
-        &queries,
         &[
             (read(0, 0, 0), Value(100), NONE),
             (read(0, 0, 32), refused(ReadingsFull, 0, 0, 32), NONE),
@@ -129,11 +115,9 @@ fn read_of_what_the_leg_wrote_or_read_and_a_refused_one_do_not_query_the_store(r
 
 #[test]
 fn what_a_worker_read_is_in_its_cache_alone_for_later_legs_and_chains(rt: HostRuntime) {
-    let queries = Cell::new(NONE);
     queries_of(
         &rt,
-        &mut over_filled(&rt, &queries),
-        &queries,
+        &mut over_filled(&rt),
         &[
             (begin(0, 3), Leg(0), NONE),
             (read(0, 0, 5), Value(105), version(5, OPEN_END)),
@@ -157,11 +141,9 @@ fn what_a_worker_read_is_in_its_cache_alone_for_later_legs_and_chains(rt: HostRu
 
 #[test]
 fn legs_run_at_the_workers_that_were_named(rt: HostRuntime) {
-    let queries = Cell::new(NONE);
     queries_of(
         &rt,
-        &mut over_filled(&rt, &queries),
-        &queries,
+        &mut over_filled(&rt),
         &[
             // worker 1 alone gets key 5, worker 2 alone key 6
             (begin(0, 1), Leg(0), NONE),
@@ -188,14 +170,12 @@ fn legs_run_at_the_workers_that_were_named(rt: HostRuntime) {
 
 #[test]
 fn ninth_key_of_a_worker_takes_the_place_of_the_one_used_longest_ago(rt: HostRuntime) {
-    let queries = Cell::new(NONE);
-    let mut engine = over_filled(&rt, &queries);
+    let mut engine = over_filled(&rt);
     answers(&rt, &mut engine, &[(begin(0, 0), Leg(0))]);
     reads_filled(&rt, &mut engine, 0, 0, 0..8);
     queries_of(
         &rt,
         &mut engine,
-        &queries,
         &[
             // key 0 is used again from the cache, and 1 is now the oldest
             (begin(1, 0), Leg(0), NONE),
@@ -215,14 +195,12 @@ fn ninth_key_of_a_worker_takes_the_place_of_the_one_used_longest_ago(rt: HostRun
 
 #[test]
 fn what_the_leg_wrote_or_read_itself_is_not_a_use_of_the_workers_entry(rt: HostRuntime) {
-    let queries = Cell::new(NONE);
-    let mut engine = over_filled(&rt, &queries);
+    let mut engine = over_filled(&rt);
     answers(&rt, &mut engine, &[(begin(0, 0), Leg(0))]);
     reads_filled(&rt, &mut engine, 0, 0, 0..8);
     queries_of(
         &rt,
         &mut engine,
-        &queries,
         &[
             (read(0, 0, 0), Value(100), NONE),
             (write(0, 0, 1, 7), Done, NONE),
@@ -243,8 +221,7 @@ fn what_the_leg_wrote_or_read_itself_is_not_a_use_of_the_workers_entry(rt: HostR
 fn commit_with_writes_queries_the_store_once_with_its_clock_reading_and_its_writes(
     rt: HostRuntime,
 ) {
-    let queries = Cell::new(NONE);
-    let mut engine = over_new(&queries);
+    let mut engine = over_new();
     answers(
         &rt,
         &mut engine,
@@ -259,7 +236,6 @@ fn commit_with_writes_queries_the_store_once_with_its_clock_reading_and_its_writ
     queries_of(
         &rt,
         &mut engine,
-        &queries,
         &[(commit(0, 0, 33), committed(0, 0, 33, 1, 2), expected)],
     );
     // the clock reading goes to the store as it is, and the store answers a later time
@@ -272,15 +248,13 @@ fn commit_with_writes_queries_the_store_once_with_its_clock_reading_and_its_writ
     queries_of(
         &rt,
         &mut engine,
-        &queries,
         &[(commit(0, 0, 2), wrote(34, 1), expected)],
     );
 }
 
 #[test]
 fn commit_without_writes_does_not_query_the_store_whatever_the_clock_reading(rt: HostRuntime) {
-    let queries = Cell::new(NONE);
-    let mut engine = over_new(&queries);
+    let mut engine = over_new();
     for clock in [0, 1, LAST_TIME, OPEN_END, u64::MAX] {
         answers(
             &rt,
@@ -288,19 +262,13 @@ fn commit_without_writes_does_not_query_the_store_whatever_the_clock_reading(rt:
             &[(begin(0, 0), Leg(0)), (read(0, 0, 5), Value(0))],
         );
         let call = commit_into(0, 0, clock, 1, 0);
-        queries_of(
-            &rt,
-            &mut engine,
-            &queries,
-            &[(call, committed(0, 0, 0, 1, 0), NONE)],
-        );
+        queries_of(&rt, &mut engine, &[(call, committed(0, 0, 0, 1, 0), NONE)]);
     }
 }
 
 #[test]
 fn commit_that_the_chain_refuses_does_not_query_the_store(rt: HostRuntime) {
-    let queries = Cell::new(NONE);
-    let mut engine = over_new(&queries);
+    let mut engine = over_new();
     answers(
         &rt,
         &mut engine,
@@ -318,14 +286,13 @@ fn commit_that_the_chain_refuses_does_not_query_the_store(rt: HostRuntime) {
         (commit(0, 0, 9), refused_leg(NotOpen, 0, 0)),
         (commit(0, 1, 9), refused_leg(AnotherLegOpen, 0, 1)),
     ] {
-        queries_of(&rt, &mut engine, &queries, &[(call, refusal, NONE)]);
+        queries_of(&rt, &mut engine, &[(call, refusal, NONE)]);
     }
     answers(&rt, &mut engine, &[(join(0, 1, 2, 3), Leg(3))]);
     for call in [commit_into(0, 3, 9, 0, 8), commit_into(0, 3, 9, 32, 0)] {
         queries_of(
             &rt,
             &mut engine,
-            &queries,
             &[(call, refused_leg(TooShort, 0, 3), NONE)],
         );
     }
@@ -333,8 +300,7 @@ fn commit_that_the_chain_refuses_does_not_query_the_store(rt: HostRuntime) {
 
 #[test]
 fn commit_that_the_store_refuses_queries_it_once(rt: HostRuntime) {
-    let queries = Cell::new(NONE);
-    let mut engine = over_new(&queries);
+    let mut engine = over_new();
     answers(
         &rt,
         &mut engine,
@@ -346,14 +312,12 @@ fn commit_that_the_store_refuses_queries_it_once(rt: HostRuntime) {
     queries_of(
         &rt,
         &mut engine,
-        &queries,
         &[(commit(0, 0, u64::MAX), too_high, expected)],
     );
     let expected = one_commit(LAST_TIME, &writes);
     queries_of(
         &rt,
         &mut engine,
-        &queries,
         &[(commit(0, 0, LAST_TIME), wrote(LAST_TIME, 1), expected)],
     );
     answers(
@@ -363,10 +327,5 @@ fn commit_that_the_store_refuses_queries_it_once(rt: HostRuntime) {
     );
     let no_time = Refused(store_refuses(NoTimeLeft, 0, 0));
     let expected = one_commit(1, &writes);
-    queries_of(
-        &rt,
-        &mut engine,
-        &queries,
-        &[(commit(0, 0, 1), no_time, expected)],
-    );
+    queries_of(&rt, &mut engine, &[(commit(0, 0, 1), no_time, expected)]);
 }

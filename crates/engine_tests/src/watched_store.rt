@@ -65,21 +65,33 @@ fn start_of(writes: &[Write]) -> [Write; WRITE_KEYS] {
     start
 }
 
-// The store, and its calls since they were last cleared.
+// The store, and its calls since they were last asked for.
 #[derive(Drop)]
-pub(crate) struct Watched<'a> {
-    pub(crate) store: Newest,
-    pub(crate) queries: &'a Cell<Queries>,
+pub(crate) struct Watched {
+    store: Newest,
+    queries: Cell<Queries>,
 }
 
-impl Watched<'_> {
+impl Watched {
+    pub(crate) fn new(store: Newest) -> Watched {
+        Watched {
+            store,
+            queries: Cell::new(NONE),
+        }
+    }
+
+    // The calls since this was last asked.
+    pub(crate) fn queries(&self) -> Queries {
+        self.queries.replace(NONE)
+    }
+
     fn note(&self, query: Query) {
         let (count, _) = self.queries.get();
         self.queries.set((count.saturating_add(1), Some(query)));
     }
 }
 
-impl Reads for Watched<'_> {
+impl Reads for Watched {
     ghost meaning = { λ w. newest_meaning w.store };
 
     ghost least_capacity = { λ w. lit≤ tt };
@@ -95,7 +107,7 @@ impl Reads for Watched<'_> {
     }
 }
 
-impl Store for Watched<'_> {
+impl Store for Watched {
     ghost DEPTH = { 1 };
 
     ghost not_none = { lit≤ tt };

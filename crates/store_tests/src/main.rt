@@ -5,6 +5,8 @@
 
 mod chance;
 #[cfg(test)]
+mod plain_table;
+#[cfg(test)]
 mod tests;
 
 use chance::Chance;
