@@ -219,10 +219,9 @@ fn follows(
 // Every eighth key from the remainder of the number on, so that eight commits in a row write each key once.
 fn every_eighth_key(number: u32) -> [Write; WRITE_KEYS] {
     let mut writes = [NO_WRITE; WRITE_KEYS];
-    let mut key = (number % 8) as u8;
-    for write in writes.iter_mut() {
+    let keys = (0..KEYS).filter(|key| u32::from(*key) % 8 == number % 8);
+    for (write, key) in writes.iter_mut().zip(keys) {
         *write = Write { key, value: number };
-        key = key.wrapping_add(8);
     }
     writes
 }
