@@ -1,6 +1,7 @@
 -- What a write to a chain's legs does to what the chain means.
 use mathlib.Core.Path.{fun_ext}
 use Rattle.std.proofs.Common.{◌≡◌, ℕ, zero, suc, ◌+◌, ◌-◌, ◌<◌, ◌≤◌, Bool, eqb, ltb, true, false, ◌&&◌, ◌||◌, ◌==◌, Some, Ok, Result, List, [], length, take, set, get_or, refl, sym, ap, ◌∙◌, add-one, arith}
+use Rattle.std.proofs.lemmas.Bool.{false≢true, eq-eqb}
 use Rattle.std.proofs.Math.Seq.{take-set-lt}
 use Rattle.std.proofs.lemmas.List.{get_or-take, length-take, length-take-le, take_more_set}
 use Rattle.snapshot.specs.Intervals.{from_to}
@@ -8,15 +9,18 @@ use Rattle.snapshot.specs.Limits.{leg_count}
 use Rattle.snapshot.specs.declared.fault.EngineFault.{EngineFault}
 use Rattle.engine_parts.proofs.ItemLemmas.{item_set, item_there, item_past, item_pushed}
 use Rattle.engine_parts.specs.Lists.{item_at}
+use Rattle.engine_model.proofs.Updates.{at_other}
 use Rattle.engine_model.specs.declared.records.LegReading.{LegReading}
 use Rattle.engine_model.specs.Updates.{with_at}
 use Rattle.engine_model.specs.Steps.{only_open}
 use Rattle.engine_model.specs.Engines as model
 use Rattle.engine.specs.ChainCalls.{after_join}
 use Rattle.engine.specs.Chains.{chain_of}
-use Rattle.engine.specs.Legs.{leg_of, open_leg_of, open_in, joined_leg}
+use Rattle.engine.specs.Legs.{leg_of, open_leg_of, open_in, leg_after, joined_leg}
 use Rattle.engine.specs.declared.chain.Chain.{Chain}
 use Rattle.engine.specs.declared.leg.Leg.{Leg}
+use Rattle.engine.specs.declared.leg.LegCall.TheVariants as call
+use Rattle.engine.specs.declared.leg.LegState.TheVariants as state
 use Rattle.engine.specs.declared.named.Named.{Named}
 use Rattle.engine.specs.declared.worker.Worker.TheVariants.{W0}
 use Rattle.engine.specs.declared.leg.OpenLeg.{OpenLeg}
@@ -28,7 +32,7 @@ with_legs ls n c = record { legs = ls; opened = n; readings = c.readings }
 abbrev pub no_leg : Leg
 no_leg =
     record {
-      is_open = false;
+      state = state.Unused;
       leg = record { worker = W0; interval = from_to 0 0; writes = record { writes = record { items = []; len = 0 } } };
     }
 
@@ -112,6 +116,26 @@ only_open_below c l n le all =
   where
     unused : (k : ℕ) → n ≤ k → k < leg_count → (chain_of c).legs k ≡ model.unused
     unused k le_k lt = item_past leg_of model.unused (opened_legs c) k (omega (arith, length-take c.opened c.legs, all (omega arith)))
+
+-- a leg that is open ends
+open_ends : (state : model.LegState) (o : model.OpenLeg) → open_in state ≡ Some o → (leg_after call.End state).1 ≡ model.ended
+open_ends model.unused o e = absurd cc
+open_ends (model.running l) o e = refl
+open_ends model.ended o e = absurd cc
+
+-- of two legs that are open, both end
+pub both_end :
+    (c : model.Chain) (l j : ℕ) (first second : model.OpenLeg) → eqb l j ≡ false → open_in (c.legs l) ≡ Some first →
+    open_in (c.legs j) ≡ Some second → (one two : model.Chain) →
+    one ≡ model.with_leg l (leg_after call.End (c.legs l)).1 c → two ≡ model.with_leg j (leg_after call.End (one.legs j)).1 one →
+    two ≡ model.end_leg j (model.end_leg l c)
+both_end c l j first second apart open_l open_j one two e f =
+    let ended_one : one ≡ model.end_leg l c = e ∙ ap (λ state. model.with_leg l state c) (open_ends (c.legs l) first open_l) in
+    let still : one.legs j ≡ c.legs j = ap (λ m. m.legs j) ended_one ∙ at_other l model.ended c.legs j (λ same. false≢true (sym apart ∙ eq-eqb l j (sym same))) in
+    f
+    ∙ ap (λ state. model.with_leg j (leg_after call.End state).1 one) still
+    ∙ ap (λ state. model.with_leg j state one) (open_ends (c.legs j) second open_j)
+    ∙ ap (model.with_leg j model.ended) ended_one
 
 -- a join of two open legs that nothing stands against
 joins :

@@ -1,8 +1,7 @@
 -- What a leg means in the model, and what a call does to one.
-use Rattle.std.specs.Prelude.{ℕ, if◌then◌else◌, List, Some, None, Ok, Err, Option, Result}
+use Rattle.std.specs.Prelude.{ℕ, List, Some, None, Ok, Err, Option, Result}
 use Rattle.std.specs.Borrow.{Bor}
 use Rattle.snapshot.specs.Intervals.{narrowed, joined_or_refused}
-use Rattle.snapshot.specs.declared.account.Reading.{Reading}
 use Rattle.snapshot.specs.declared.account.Write.{Write}
 use Rattle.snapshot.specs.declared.fault.Refusal.{Refusal}
 use Rattle.snapshot.specs.declared.fault.Refusal.TheVariants.{NotOpen}
@@ -11,6 +10,10 @@ use Rattle.engine_model.specs.Engines as model
 use Rattle.engine_model.specs.WriteSets.{with_write, united}
 use Rattle.engine.specs.Workers.{worker_number}
 use Rattle.engine.specs.declared.leg.Leg.{Leg}
+use Rattle.engine.specs.declared.leg.LegCall.{LegCall}
+use Rattle.engine.specs.declared.leg.LegCall.TheVariants as call
+use Rattle.engine.specs.declared.leg.LegState.{LegState}
+use Rattle.engine.specs.declared.leg.LegState.TheVariants as state
 use Rattle.engine.specs.declared.leg.OpenLeg.{OpenLeg}
 
 -- a leg that is open, as the model has it
@@ -21,9 +24,14 @@ open_leg_of o = record { worker = worker_number o.worker; interval = o.interval;
 abbrev pub lent_leg : Bor OpenLeg → model.OpenLeg
 lent_leg o = open_leg_of o.now
 
--- a leg that has been opened: running or ended
+-- a leg by its number: unused, running or ended
+abbrev pub leg_in : LegState → OpenLeg → model.LegState
+leg_in state.Unused o = model.unused
+leg_in state.Open o = model.running (open_leg_of o)
+leg_in state.Ended o = model.ended
+
 abbrev pub leg_of : Leg → model.LegState
-leg_of l = if l.is_open then model.running (open_leg_of l.leg) else model.ended
+leg_of l = leg_in l.state l.leg
 
 -- the open leg, if the leg is open
 abbrev pub open_in : model.LegState → Option model.OpenLeg
@@ -36,17 +44,13 @@ abbrev pub leg_with_writes : model.OpenLeg → Result (List Write) Refusal → R
 leg_with_writes l (Ok ws) = (Ok tt, model.running (model.with_write_set ws l))
 leg_with_writes l (Err r) = (Err r, model.running l)
 
--- a leg after a reading, if it is open
-abbrev pub leg_narrowed : Reading → model.LegState → model.LegState
-leg_narrowed r model.unused = model.unused
-leg_narrowed r (model.running l) = model.running (model.with_interval (narrowed l.interval r) l)
-leg_narrowed r model.ended = model.ended
-
--- and after a write, which is refused where it is not open
-abbrev pub leg_written : Write → model.LegState → Result (Unit {0}) Refusal × model.LegState
-leg_written w model.unused = (Err NotOpen, model.unused)
-leg_written w (model.running l) = leg_with_writes l (fit_or_refused (with_write w l.writes))
-leg_written w model.ended = (Err NotOpen, model.ended)
+-- what becomes of a leg at a call: narrowed, written to or ended, or refused where it is not open
+abbrev pub leg_after : LegCall → model.LegState → Result (Unit {0}) Refusal × model.LegState
+leg_after c model.unused = (Err NotOpen, model.unused)
+leg_after (call.Narrow r) (model.running l) = (Ok tt, model.running (model.with_interval (narrowed l.interval r) l))
+leg_after (call.Write w) (model.running l) = leg_with_writes l (fit_or_refused (with_write w l.writes))
+leg_after call.End (model.running l) = (Ok tt, model.ended)
+leg_after c model.ended = (Err NotOpen, model.ended)
 
 -- what is made of a result, or of its refusal
 abbrev pub on_result : {Y E Z : Type 0} → Result Y E → (E → Z) → (Y → Z) → Z

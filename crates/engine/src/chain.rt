@@ -10,10 +10,11 @@ ghost use Rattle.engine.specs.Chains.{chain_of};
 ghost use Rattle.engine.specs.Commits.{committing_leg, answer_and_lists};
 ghost use Rattle.engine_model.specs.Steps.{account_for, only_open};
 ghost use Rattle.snapshot.specs.Overwriting.{overwritten};
-ghost use Rattle.engine.specs.Legs.{open_leg_of, lent_leg, open_in, leg_narrowed, leg_written};
+ghost use Rattle.engine.specs.Legs.{open_leg_of, lent_leg, open_in, leg_after};
 ghost use Rattle.engine.specs.Workers.{worker_number};
+ghost use Rattle.engine.specs.declared.leg.LegCall.TheVariants as call;
 
-use crate::leg::{Leg, OpenLeg};
+use crate::leg::{Leg, LegCall, OpenLeg};
 use crate::named::Named;
 use crate::worker::Worker;
 use engine_model::records::{CacheEntry, LegReading};
@@ -80,7 +81,7 @@ impl Chain {
         if self.opened >= LEGS {
             return Err(named.refused(Refusal::TooManyLegs));
         }
-        self.end(named.leg);
+        let _ = self.change(named.leg, LegCall::End);
         Ok(self.open(next))
     }
 
@@ -108,7 +109,7 @@ impl Chain {
         if self.opened >= LEGS - 1 {
             return Err(named.refused(Refusal::TooManyLegs));
         }
-        self.end(named.leg);
+        let _ = self.change(named.leg, LegCall::End);
         let first_leg = self.open(one);
         let second_leg = self.open(other);
         Ok((first_leg, second_leg))
@@ -140,8 +141,8 @@ impl Chain {
         let both = open
             .join(other, worker)
             .map_err(|refusal| named.refused(refusal))?;
-        self.end(named.leg);
-        self.end(second);
+        let _ = self.change(named.leg, LegCall::End);
+        let _ = self.change(second, LegCall::End);
         Ok(self.open(both))
     }
 
@@ -157,7 +158,7 @@ impl Chain {
             key: named.key,
             value,
         };
-        self.write_on(named.leg, write)
+        self.change(named.leg, LegCall::Write { write })
             .map_err(|refusal| named.refused(refusal))
     }
 
@@ -282,10 +283,15 @@ impl Chain {
     fn note(&mut self, reading: LegReading)
         requires within { (reading.leg < 16) × (reading.leg < self.old.opened) }
         requires room { length self.old.readings < 32 }
-        ensures { chain_of self.new ≡ model.add_reading reading (model.with_leg reading.leg (leg_narrowed reading.made.reading ((chain_of self.old).legs reading.leg)) (chain_of self.old)) }
+        ensures { chain_of self.new ≡ model.add_reading reading (model.with_leg reading.leg (leg_after (call.Narrow reading.made.reading) ((chain_of self.old).legs reading.leg)).1 (chain_of self.old)) }
     {
         let LegReading { leg, made } = reading;
-        self.narrow(leg, made.reading);
+        let _ = self.change(
+            leg,
+            LegCall::Narrow {
+                reading: made.reading,
+            },
+        );
         self.add_reading(reading);
     }
 
@@ -301,32 +307,17 @@ impl Chain {
         }
     }
 
-    // Ends a leg that has been opened.
-    fn end(&mut self, leg: u8)
+    // Changes a leg as the call says, or refuses as the leg does. A leg that has been found open is refused neither its end
+    // nor a narrower interval, so that a caller may drop that answer.
+    #[inline(always)]
+    fn change(&mut self, leg: u8, call: LegCall) -> Result<(), Refusal>
         requires { (leg < 16) × (leg < self.old.opened) }
-        ensures after { chain_of self.new ≡ model.end_leg leg (chain_of self.old) }
+        ensures answer { result ≡ (leg_after call ((chain_of self.old).legs leg)).0 }
+        ensures after { chain_of self.new ≡ model.with_leg leg (leg_after call ((chain_of self.old).legs leg)).1 (chain_of self.old) }
         ensures opened { self.new.opened ≡ self.old.opened }
-    {
-        self.legs[leg as usize].end();
-    }
-
-    // Narrows a leg by a reading.
-    fn narrow(&mut self, leg: u8, reading: Reading)
-        requires { (leg < 16) × (leg < self.old.opened) }
-        ensures after { chain_of self.new ≡ model.with_leg leg (leg_narrowed reading ((chain_of self.old).legs leg)) (chain_of self.old) }
-        ensures readings { self.new.readings ≡ self.old.readings }
-    {
-        self.legs[leg as usize].narrow(reading);
-    }
-
-    // Makes a write on a leg, or refuses as the leg does.
-    fn write_on(&mut self, leg: u8, write: Write) -> Result<(), Refusal>
-        requires { (leg < 16) × (leg < self.old.opened) }
-        ensures answer { result ≡ (leg_written write ((chain_of self.old).legs leg)).0 }
-        ensures after { chain_of self.new ≡ model.with_leg leg (leg_written write ((chain_of self.old).legs leg)).1 (chain_of self.old) }
         ensures unchanged { OnErr result (self.new ≡ self.old) }
     {
-        self.legs[leg as usize].write(write)
+        self.legs[leg as usize].change(call)
     }
 
     // Opens the next leg, and answers its number.

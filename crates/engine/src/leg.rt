@@ -3,7 +3,7 @@ ghost use Rattle.std.specs.Option.{option_map, option_copied};
 ghost use Rattle.std.specs.Prelude.{◌≡◌, OnErr};
 ghost use Rattle.std.specs.Result.{result_map_both};
 ghost use Rattle.engine_model.specs.Engines as model;
-ghost use Rattle.engine.specs.Legs.{joined_leg, leg_of, open_leg_of, open_in, leg_narrowed, leg_written};
+ghost use Rattle.engine.specs.Legs.{joined_leg, leg_of, open_leg_of, open_in, leg_after};
 ghost use Rattle.engine.specs.Workers.{worker_number};
 
 use crate::worker::Worker;
@@ -36,11 +36,27 @@ impl OpenLeg {
     }
 }
 
-// A leg that has been opened: open still, or ended.
+// Whether a leg has been opened, and whether it has ended.
+#[derive(Clone, Copy)]
+pub(crate) enum LegState {
+    Unused,
+    Open,
+    Ended,
+}
+
+// A leg by its number: it is unused until it is opened. Only an open leg's worker, interval and writes say anything.
 #[derive(Clone, Copy)]
 pub(crate) struct Leg {
-    is_open: bool,
+    state: LegState,
     leg: OpenLeg,
+}
+
+// What a call does to a leg that it names.
+#[derive(Clone, Copy)]
+pub(crate) enum LegCall {
+    Narrow { reading: Reading },
+    Write { write: Write },
+    End,
 }
 
 impl Leg {
@@ -48,13 +64,18 @@ impl Leg {
     pub(crate) fn new(leg: OpenLeg) -> Leg
         ensures { leg_of result ≡ model.running (open_leg_of leg) }
     {
-        Leg { is_open: true, leg }
+        Leg {
+            state: LegState::Open,
+            leg,
+        }
     }
 
-    // What stands where no leg has been opened yet.
-    pub(crate) fn blank() -> Leg {
+    // A leg that is unused.
+    pub(crate) fn blank() -> Leg
+        ensures { leg_of result ≡ model.unused }
+    {
         Leg {
-            is_open: false,
+            state: LegState::Unused,
             leg: OpenLeg {
                 worker: Worker::W0,
                 interval: Interval { low: 0, high: 0 },
@@ -67,31 +88,30 @@ impl Leg {
     pub(crate) fn as_open(&self) -> Option<&OpenLeg>
         ensures { option_map open_leg_of (option_copied result) ≡ open_in (leg_of self.now) }
     {
-        if self.is_open { Some(&self.leg) } else { None }
+        match self.state {
+            LegState::Open => Some(&self.leg),
+            LegState::Unused | LegState::Ended => None,
+        }
     }
 
-    // Ends the leg.
-    pub(crate) fn end(&mut self)
-        ensures { leg_of self.new ≡ model.ended }
-    {
-        self.is_open = false;
-    }
-
-    // Narrows the interval of a leg that is open.
-    pub(crate) fn narrow(&mut self, reading: Reading)
-        ensures { leg_of self.new ≡ leg_narrowed reading (leg_of self.old) }
-    {
-        self.leg.interval = self.leg.interval.narrow(reading);
-    }
-
-    // Makes a write, which a leg that has ended refuses, and a full write set.
-    pub(crate) fn write(&mut self, write: Write) -> Result<(), Refusal>
-        ensures made { (result, leg_of self.new) ≡ leg_written write (leg_of self.old) }
+    // What becomes of a leg at a call: it is narrowed, written to or ended, or refuses where it is not open.
+    // A leg that refuses stays as it is.
+    #[inline(always)]
+    pub(crate) fn change(&mut self, call: LegCall) -> Result<(), Refusal>
+        ensures made { (result, leg_of self.new) ≡ leg_after call (leg_of self.old) }
         ensures unchanged { OnErr result (self.new ≡ self.old) }
     {
-        if !self.is_open {
-            return Err(Refusal::NotOpen);
+        match (self.state, call) {
+            (LegState::Unused | LegState::Ended, _) => Err(Refusal::NotOpen),
+            (LegState::Open, LegCall::Narrow { reading }) => {
+                self.leg.interval = self.leg.interval.narrow(reading);
+                Ok(())
+            }
+            (LegState::Open, LegCall::Write { write }) => self.leg.writes.write(write),
+            (LegState::Open, LegCall::End) => {
+                self.state = LegState::Ended;
+                Ok(())
+            }
         }
-        self.leg.writes.write(write)
     }
 }

@@ -1,6 +1,5 @@
-use Rattle.std.proofs.Common.{◌≡◌, ap, ◌∙◌, eqb, ltb, true, false, Some, Ok, rules}
-use Rattle.engine_model.specs.Engines as model
-use Rattle.engine.proofs.ChainLemmas.{legs_joined}
+use Rattle.std.proofs.Common.{◌≡◌, eqb, ltb, true, false, Some, Ok, rules}
+use Rattle.engine.proofs.ChainLemmas.{both_end, legs_joined}
 use Rattle.engine.specs.Chains.{chain_of}
 use Rattle.engine.specs.Legs.{open_leg_of, open_in, joined_leg}
 use Rattle.engine.specs.Workers.{worker_number}
@@ -19,6 +18,6 @@ returns-clause-made c =
     let apart : eqb n.leg j ≡ false = search rules in
     let room : ltb chain.opened 16 ≡ true = search rules in
     let both : joined_leg w one other ≡ Ok (open_leg_of c.in_ok-both.both) = search rules in
-    let ends = c.end-2.ensures.after ∙ ap (model.end_leg j) c.end.ensures.after in
+    let ends = both_end chain n.leg j _ _ apart first second _ _ c.change.ensures.after c.change-2.ensures.after in
     let number : c.open.result ≡ chain.opened = search rules in
     legs_joined n j w chain one other (open_leg_of c.in_ok-both.both) first second apart room both _ _ _ number ends c.open.ensures.after
