@@ -70,11 +70,14 @@ impl State {
         let named = Named::leg(place, leg);
         named.check_leg()?;
         let worker = named.worker(worker)?;
-        let here = &mut self.places[place as usize];
-        if !here.is_taken {
+        let Place {
+            is_taken: true,
+            chain,
+        } = &mut self.places[place as usize]
+        else {
             return Err(named.refused(Refusal::NotOpen));
-        }
-        here.chain.hand(named, worker)
+        };
+        chain.hand(named, worker)
     }
 
     pub(crate) fn fork(
@@ -91,11 +94,14 @@ impl State {
         named.check_leg()?;
         let first = named.worker(first_worker)?;
         let second = named.worker(second_worker)?;
-        let here = &mut self.places[place as usize];
-        if !here.is_taken {
+        let Place {
+            is_taken: true,
+            chain,
+        } = &mut self.places[place as usize]
+        else {
             return Err(named.refused(Refusal::NotOpen));
-        }
-        here.chain.fork(named, first, second)
+        };
+        chain.fork(named, first, second)
     }
 
     pub(crate) fn join(
@@ -112,11 +118,14 @@ impl State {
         named.check_leg()?;
         named.check(is_leg(second_leg))?;
         let worker = named.worker(worker)?;
-        let here = &mut self.places[place as usize];
-        if !here.is_taken {
+        let Place {
+            is_taken: true,
+            chain,
+        } = &mut self.places[place as usize]
+        else {
             return Err(named.refused(Refusal::NotOpen));
-        }
-        here.chain.join(named, second_leg, worker)
+        };
+        chain.join(named, second_leg, worker)
     }
 
     pub(crate) fn read<S: Reads>(
@@ -131,11 +140,14 @@ impl State {
     {
         let named = Named { place, leg, key };
         named.check_key()?;
-        let here = &mut self.places[place as usize];
-        if !here.is_taken {
+        let Place {
+            is_taken: true,
+            chain,
+        } = &mut self.places[place as usize]
+        else {
             return Err(named.refused(Refusal::NotOpen));
-        }
-        here.chain.read(named, &mut self.caches, store)
+        };
+        chain.read(named, &mut self.caches, store)
     }
 
     #[inline(always)]
@@ -151,11 +163,14 @@ impl State {
     {
         let named = Named { place, leg, key };
         named.check_key()?;
-        let here = &mut self.places[place as usize];
-        if !here.is_taken {
+        let Place {
+            is_taken: true,
+            chain,
+        } = &mut self.places[place as usize]
+        else {
             return Err(named.refused(Refusal::NotOpen));
-        }
-        here.chain.write(named, value)
+        };
+        chain.write(named, value)
     }
 
     // Commits into two lists, each of which counts as having as much room as `room` says. A list may be shorter than that if it
@@ -180,11 +195,14 @@ impl State {
         ensures writes_unchanged { OnErr result (writes.new ≡ writes.old) }
     {
         named.check_leg()?;
-        let here = &self.places[named.place as usize];
-        if !here.is_taken {
+        let Place {
+            is_taken: true,
+            chain,
+        } = &self.places[named.place as usize]
+        else {
             return Err(named.refused(Refusal::NotOpen));
-        }
-        let leg = *here.chain.committing_leg(named, room)?;
+        };
+        let leg = *chain.committing_leg(named, room)?;
         match give_to_store(
             store,
             &mut self.notices,

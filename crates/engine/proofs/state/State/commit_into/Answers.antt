@@ -24,8 +24,8 @@ returns-in_err-check_leg-clause-step g c =
     commit_refused g.S.Store.DEPTH c.args.named.place c.args.named.leg c.args.clock c.args.room.readings c.args.room.writes
     c.args.readings.now c.args.writes.now s s s _ _ _ refl exit.1 exit.2 (refused_out s _ (Err _) _ _ _ refl out.1 (grind (arith, nat_tests)))
 
-pub returns-then-not-here-clause-step : goal.returns-then-not-here-clause-step
-returns-then-not-here-clause-step g c =
+pub returns-in_default-clause-step : goal.returns-in_default-clause-step
+returns-in_default-clause-step g c =
     let e = c.args.self.now in
     let m = g.S.Reads.meaning c.args.store.now in
     let p = c.args.named.place in

@@ -32,8 +32,8 @@ returns-in_err-second-clause-step c m depth =
     let exit = err_from_is_err_and c.from_residual-in_err-second.result c.from_residual-in_err-second.ensures.1 in
     refused_out _ _ _ _ _ _ (exit.1 ∙ ap Err exit.2) out.1 (grind (arith, nat_tests))
 
-pub returns-then-not-here-clause-step : goal.returns-then-not-here-clause-step
-returns-then-not-here-clause-step c m depth =
+pub returns-in_default-clause-step : goal.returns-in_default-clause-step
+returns-in_default-clause-step c m depth =
     let e = c.args.self.now in
     let p = c.args.place in
     let d = c.index-self-place.result in

@@ -16,8 +16,8 @@ returns-in_err-check_key-clause-step g c depth =
     let exit = err_from_is_err_and c.from_residual.result c.from_residual.ensures.1 in
     refused_out _ _ _ _ _ _ (exit.1 ∙ ap Err exit.2) out.1 (grind (arith, nat_tests))
 
-pub returns-then-not-here-clause-step : goal.returns-then-not-here-clause-step
-returns-then-not-here-clause-step g c depth =
+pub returns-in_default-clause-step : goal.returns-in_default-clause-step
+returns-in_default-clause-step g c depth =
     let m = g.S.Reads.meaning c.args.store.now in
     let e = c.args.self.now in
     let p = c.args.place in
