@@ -13,6 +13,7 @@ use snapshot::limits::KEYS;
 use store::update::Update;
 
 // Adds a record after the first `kept`, and counts it.
+#[tactic(auto, using(std::proofs::lemmas::List::take_more_set, crate::proofs::Added::added_counts, records::proofs::Counting::counted_le))]
 fn push<M: RecordMemory>(memory: &mut M, kept: usize, counts: &mut PerKey, new: Record)
     requires room { kept < length (M.records memory.old) }
     requires small { length (M.records memory.old) ≤ most_records }

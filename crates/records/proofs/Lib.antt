@@ -6,7 +6,6 @@ pub mod Layouts
 pub mod Uniqueness
 pub mod Capacities
 pub mod Holding
-pub mod Walking
 pub mod Totals
 pub mod Remaining
 pub mod Orders

@@ -1,6 +1,7 @@
 -- The numbers of all keys together.
-use Rattle.std.proofs.Common.{◌≡◌, ℕ, zero, suc, ◌+◌, ◌-◌, ◌<◌, ◌≤◌, ◌==◌, add-one, refl, sym, ap, ◌∙◌, slice_index, ⊎_elim, arith}
+use Rattle.std.proofs.Common.{◌≡◌, ℕ, zero, suc, ◌+◌, ◌-◌, ◌<◌, ◌≤◌, ◌==◌, add-one, refl, sym, ap, ◌∙◌, slice_index, get_or, replicate, ⊎_elim, arith}
 use Rattle.std.proofs.lemmas.Bool.{cases_Bool, cases_eq, cond_both, cond-true, cond-false, eq-eqb, ne_eqb, ltb-true}
+use Rattle.std.proofs.lemmas.List.{get_or-replicate}
 use Rattle.snapshot.specs.Limits.{is_key, key_count}
 use Rattle.records.specs.PerKeys.{number_for, one_less, total_below, total_of}
 use Rattle.records.specs.declared.per_key.PerKey.{PerKey}
@@ -65,3 +66,7 @@ total_less p q key some after =
     (λ key_in. omega (arith, total_change key_count (number_for p) (number_for q) key (ltb-true key key_count key_in) others, here))
     (λ past. absurd (omega (arith, cond-false (is_key key) (slice_index p.numbers key) 0 past)))
     (cases_Bool (is_key key))
+
+-- each of 64 zeros is 0
+pub none_at : (k : ℕ) → number_for (record { numbers = replicate key_count 0 }) k ≡ 0
+none_at k = cond_both (is_key k) (get_or (replicate key_count 0) k 0) 0 (λ x. x ≡ 0) (λ key. get_or-replicate key_count k 0 0 (ltb-true k key_count key)) (λ _. refl)

@@ -13,6 +13,7 @@ pub struct PerKey {
 
 impl PerKey {
     // 0 for every key.
+    #[tactic(auto, using(crate::proofs::Totals::none_at))]
     pub fn none() -> PerKey
         ensures { (k : ℕ) → number_for result k ≡ 0 }
     {
@@ -51,6 +52,7 @@ impl PerKey {
     }
 
     // Takes another's numbers from these, each from its own, as far as it goes.
+    #[tactic(auto, using(std::proofs::lemmas::Bool::Decides::nat_tests))]
     pub fn subtract(&mut self, other: &PerKey)
         ensures { (k : ℕ) → number_for self.new k ≡ number_for self.old k - number_for other.now k }
     {
@@ -61,6 +63,7 @@ impl PerKey {
     }
 
     // One less for each key that has any.
+    #[tactic(auto, using(std::proofs::lemmas::Bool::Decides::nat_tests))]
     pub fn all_but_one(&self) -> PerKey
         ensures { (k : ℕ) → number_for result k ≡ number_for self.now k - 1 }
     {
