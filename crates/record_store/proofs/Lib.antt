@@ -3,3 +3,4 @@ pub mod Added
 pub mod Commits
 pub mod Excesses
 pub mod Laying
+pub mod Moves

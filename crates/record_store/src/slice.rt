@@ -1,5 +1,6 @@
 // A slice of records that a caller lends, as memory: 64 to 1,024 records are fit for a store.
-ghost use Rattle.std.specs.Prelude.{◌≡◌, length};
+ghost use Rattle.std.specs.Prelude.{◌≡◌, ◌-◌, ◌≤◌, length};
+ghost use Rattle.std.specs.List.{copy_within};
 ghost use Rattle.record_store.specs.Slices.{LiesIn, is_table_size, zeros_after};
 
 use crate::memory::RecordMemory;
@@ -11,6 +12,48 @@ pub(crate) fn is_fit(memory: &[Record]) -> bool
     ensures { result ≡ is_table_size (length memory.now) }
 {
     LEAST_RECORDS <= memory.len() && memory.len() <= MOST_RECORDS
+}
+
+// Moves all records but the first `BY` to the front. The function stands alone, over a slice of its own, since the compiler makes
+// one `memmove` of the loop where both the slice's start and the distance are known to it.
+#[inline(never)]
+fn close_gap<const BY: usize>(records: &mut [Record])
+    requires { BY ≤ length records.old }
+    ensures { records.new ≡ copy_within records.old BY (length records.old) 0 }
+{
+    let end = records.len();
+    records.copy_within(BY..end, 0);
+}
+
+// Moves the records from `start` up to `end` down by `BY` places.
+#[tactic(auto, using(crate::proofs::Moves::gap_closed))]
+fn move_by<const BY: usize>(records: &mut [Record], start: usize, end: usize)
+    requires down { BY ≤ start }
+    requires rising { start ≤ end }
+    requires within { end ≤ length records.old }
+    ensures { records.new ≡ copy_within records.old start end (start - BY) }
+{
+    close_gap::<BY>(&mut records[start - BY..end]);
+}
+
+// Moves the records from `start` up to `end` to the places from `to` on, lower ones.
+fn move_run(records: &mut [Record], start: usize, end: usize, to: usize)
+    requires down { to ≤ start }
+    requires rising { start ≤ end }
+    requires within { end ≤ length records.old }
+    ensures { records.new ≡ copy_within records.old start end to }
+{
+    match start - to {
+        1 => move_by::<1>(records, start, end),
+        2 => move_by::<2>(records, start, end),
+        3 => move_by::<3>(records, start, end),
+        4 => move_by::<4>(records, start, end),
+        5 => move_by::<5>(records, start, end),
+        6 => move_by::<6>(records, start, end),
+        7 => move_by::<7>(records, start, end),
+        8 => move_by::<8>(records, start, end),
+        _ => records.copy_within(start..end, to),
+    }
 }
 
 impl RecordMemory for &mut [Record] {
@@ -56,7 +99,7 @@ impl RecordMemory for &mut [Record] {
 
     #[tactic(auto, using(crate::proofs::Zeros::moved_tidy))]
     fn move_down(&mut self, start: usize, end: usize, to: usize) {
-        self.copy_within(start..end, to);
+        move_run(self, start, end, to);
     }
 
     #[tactic(auto, using(crate::proofs::Zeros::cleared_rest, crate::proofs::Zeros::cleared_tidy))]

@@ -19,8 +19,8 @@ loop-write-preserved c =
     let i = c.loop-write.write-index in
     let key = (get_or ws i zero_write).key in
     let step = total_step c.args.depth ws c.args.counts.now i c.loop-write-test.true (fit_rises ws c.args.update.fit) in
-    let excess = c.excess_of-total.result in
-    let here = c.excess_of-total.ensures ∙ ap (λ n. n - (c.args.depth - 1)) c.get.ensures in
+    let excess = c.excess_of.result in
+    let here = c.excess_of.ensures ∙ ap (λ n. n - (c.args.depth - 1)) c.get.ensures in
     record {
       total = omega (arith, step, here, c.loop-write.invariant.total);
       few = omega (arith, here, c.requires.few key, c.loop-write.invariant.few);
