@@ -14,15 +14,22 @@ pub(crate) fn is_fit(memory: &[Record]) -> bool
     LEAST_RECORDS <= memory.len() && memory.len() <= MOST_RECORDS
 }
 
-// Moves all records but the first `BY` to the front. The function stands alone, over a slice of its own, since the compiler makes
-// one `memmove` of the loop where both the slice's start and the distance are known to it.
-#[inline(never)]
-fn close_gap<const BY: usize>(records: &mut [Record])
+// Moves all records but the first `BY` to the front.
+fn move_to_front<const BY: usize>(records: &mut [Record])
     requires { BY ≤ length records.old }
     ensures { records.new ≡ copy_within records.old BY (length records.old) 0 }
 {
     let end = records.len();
     records.copy_within(BY..end, 0);
+}
+
+// The same as a function that stands alone: where it knows the distance, the compiler makes one `memmove` of the loop.
+#[inline(never)]
+fn close_gap<const BY: usize>(records: &mut [Record])
+    requires { BY ≤ length records.old }
+    ensures { records.new ≡ copy_within records.old BY (length records.old) 0 }
+{
+    move_to_front::<BY>(records);
 }
 
 // Moves the records from `start` up to `end` down by `BY` places.
