@@ -37,7 +37,8 @@ pub(crate) struct Room {
     pub(crate) writes: usize,
 }
 
-// The legs, how many have been opened, and the readings of all of them.
+// The legs, how many have been opened, and the readings of all of them. A leg from the number of opened ones on is unused,
+// whatever stands there.
 #[derive(Drop)]
 pub(crate) struct Chain {
     legs: [Leg; ALL_LEGS],

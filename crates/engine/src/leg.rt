@@ -36,7 +36,7 @@ impl OpenLeg {
     }
 }
 
-// Whether a leg has been opened, and whether it has ended.
+// A leg is unused until it is opened, and open until it ends.
 #[derive(Clone, Copy)]
 pub(crate) enum LegState {
     Unused,
@@ -44,7 +44,7 @@ pub(crate) enum LegState {
     Ended,
 }
 
-// A leg by its number: it is unused until it is opened. Only an open leg's worker, interval and writes say anything.
+// A leg by its number. What stands in `leg` counts only while the leg is open.
 #[derive(Clone, Copy)]
 pub(crate) struct Leg {
     state: LegState,
