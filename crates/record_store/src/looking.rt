@@ -1,5 +1,5 @@
 // Looking for a version in records by order of time.
-ghost use Rattle.std.specs.Prelude.{◌≡◌, ℕ, ◌≤◌, ◌<◌, true, None, filter, length, take, drop, slice_index_or};
+ghost use Rattle.std.specs.Prelude.{◌≡◌, ℕ, ◌-◌, ◌≤◌, ◌<◌, true, None, filter, length, take, drop, slice_index_or};
 ghost use Rattle.std.specs.List.{last_or};
 ghost use Rattle.store.specs.Meaning.{end_before, newest_at};
 ghost use Rattle.records.specs.Layouts.{in_order};
@@ -74,12 +74,43 @@ fn promise_after<M: RecordMemory>(memory: &M, start: usize, kept: usize, key: u8
     last
 }
 
+// How many records are looked at in one turn.
+const AT_ONCE: usize = 8;
+
+// Is none of the last eight of the first `end` records of the key? The compiler writes out the eight tests.
+fn none_of_last<M: RecordMemory>(memory: &M, end: usize, key: u8) -> bool
+    requires enough { 8 ≤ end }
+    requires within { end ≤ length (M.records memory.now) }
+    ensures { result ≡ true → filter (has_key key) (take (end - 8) (M.records memory.now)) ≡ filter (has_key key) (take end (M.records memory.now)) }
+{
+    for back in 0..AT_ONCE {
+        if memory.at(end - 1 - back).key == key {
+            return false;
+        }
+    }
+    true
+}
+
+// The first `end` records without some of the last, none of which is of the key.
+fn without_others<M: RecordMemory>(memory: &M, end: usize, key: u8) -> usize
+    requires { end ≤ length (M.records memory.now) }
+    ensures within { result ≤ end }
+    ensures same { filter (has_key key) (take result (M.records memory.now)) ≡ filter (has_key key) (take end (M.records memory.now)) }
+{
+    let mut left = end;
+    while left >= AT_ONCE && none_of_last(memory, left, key) {
+        left -= AT_ONCE;
+    }
+    left
+}
+
 // The last of the first `end` records that is of the key.
 fn last_of_key<M: RecordMemory>(memory: &M, end: usize, key: u8) -> Option<Record>
     requires { end ≤ length (M.records memory.now) }
     ensures { result ≡ last_or None (filter (has_key key) (take end (M.records memory.now))) }
 {
-    for place in (0..end).rev() {
+    let left = without_others(memory, end, key);
+    for place in (0..left).rev() {
         let record = memory.at(place);
         if record.key == key {
             return Some(record);

@@ -12,3 +12,4 @@ pub mod Orders
 pub mod Finding
 pub mod Outdated
 pub mod Changes
+pub mod Others
