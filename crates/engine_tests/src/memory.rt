@@ -165,7 +165,10 @@ fn engine_that_owns_a_table_shows_it(rt: HostRuntime) -> Result<(), Fail> {
         );
         answers(&rt, &mut engine, &[(commit(2, 0, 30), wrote(30, 1))]);
         assert_eq!(rt; engine.store().last(), 30);
-        assert_eq!(rt; engine.store().records()[66], record(7, 30, 70));
+        assert_eq!(rt;
+            engine.store().records().get(66).copied(),
+            Some(record(7, 30, 70))
+        );
     }
     assert_eq!(rt; memory[66], record(7, 30, 70));
     assert_eq!(rt; memory[67], NO_RECORD);

@@ -1,5 +1,5 @@
 -- The engine's answers are those over a new store; what the table means when it is let go is what its memory holds.
-use Rattle.std.proofs.Common.{◌≡◌, ◌≤◌, true, List, ◌++◌, MatchResult, length, ap, subst, ◌∙◌, arith, rules}
+use Rattle.std.proofs.Common.{◌≡◌, ◌≤◌, List, ◌++◌, MatchResult, length, ap, subst, ◌∙◌, arith, rules}
 use Rattle.std.proofs.lemmas.Bool.{cond-true}
 use Rattle.std.proofs.lemmas.Result.{MatchResult-weaker}
 use Rattle.snapshot.specs.Limits.{key_count}
