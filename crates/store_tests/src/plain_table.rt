@@ -235,7 +235,11 @@ fn even_calls<'a>(
     let mut calls = Vec::new(heap);
     for (number, writes) in (0u64..).zip(batches) {
         // every other clock reading is behind the last timestamp
-        let clock = if number % 2 == 0 { number * 3 } else { 0 };
+        let clock = if number % 2 == 0 {
+            number.saturating_mul(3)
+        } else {
+            0
+        };
         calls.push(StoreCall::Commit { clock, writes })?;
         match number {
             0 => calls.push(StoreCall::Prune { horizon: 0 })?,
