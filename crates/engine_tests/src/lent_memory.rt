@@ -2,7 +2,7 @@
 ghost use Rattle.std.specs.Prelude.{◌≡◌, ◌+◌, ◌≤◌, true, false, ◌++◌, length, is_ok, vec_len, vec_capacity, MatchResult};
 ghost use Rattle.store.specs.Meaning.{new_store};
 ghost use Rattle.records.specs.Layouts.{record_depth};
-ghost use Rattle.record_store.specs.Slices.{is_table_size};
+ghost use Rattle.records.specs.Slices.{is_table_size};
 ghost use Rattle.record_store.specs.Tables.{HoldsOnly, capacity_of};
 ghost use Rattle.engine_model.specs.Engines.{new_engine};
 ghost use Rattle.engine.specs.Performing.{answers_to, engine_after_calls};

@@ -8,7 +8,7 @@ use Rattle.records.specs.PerKeys.{number_for, with}
 use Rattle.records.specs.Records.{no_record}
 use Rattle.records.specs.declared.per_key.PerKey.{PerKey}
 use Rattle.records.specs.declared.record.Record.{Record}
-use Rattle.record_store.specs.Counts.{CountsOf}
+use Rattle.records.specs.Counts.{CountsOf}
 
 pub added_counts :
     (rs : List Record) (kept : ℕ) (new : Record) → kept < length rs → (p q : PerKey) (n : ℕ) → CountsOf p (take kept rs) → n ≡ number_for p new.key →

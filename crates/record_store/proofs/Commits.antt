@@ -22,7 +22,7 @@ use Rattle.records.specs.Records.{drop_firsts, first_records, of_key, written}
 use Rattle.records.specs.declared.per_key.PerKey.{PerKey}
 use Rattle.records.specs.declared.record.Record.{Record}
 use Rattle.record_store.proofs.Excesses.{dropped, excess_is, of_keys}
-use Rattle.record_store.specs.Counts.{CountsOf, excess_for}
+use Rattle.records.specs.Counts.{CountsOf, excess_for}
 
 keyed : (last : ℕ) (rs : List Record) → list_all (sound_record last) rs ≡ true → list_all (λ r. is_key r.key) rs ≡ true
 keyed last rs s = all_from (sound_record last) (λ r. is_key r.key) (λ r h. (and_parts (is_key r.key) (nat_le r.timestamp last) h).0) rs s
@@ -71,10 +71,11 @@ no_excess : (o : Option ℕ) (vs : List Version) → length vs ≤ 1 → excess 
 no_excess None vs few = refl
 no_excess (Some x) vs few = omega arith
 
-drops_none : (e : ℕ → ℕ) (rs : List Record) → ((k : ℕ) → e k ≡ 0) → drop_firsts e rs ≡ rs
-drops_none e [] none = refl
-drops_none e (r ∷ rs) none =
-    cond-false (nat_lt 0 (e r.key)) _ _ (grind (arith, nat_tests, none r.key)) ∙ ap (λ xs. r ∷ xs) (drops_none e rs none)
+-- where none is dropped, all stay
+pub all_stay : (e : ℕ → ℕ) (rs : List Record) → ((k : ℕ) → e k ≡ 0) → rs ≡ drop_firsts e rs
+all_stay e [] none = refl
+all_stay e (r ∷ rs) none =
+    ap (λ xs. r ∷ xs) (all_stay e rs none) ∙ sym (cond-false (nat_lt 0 (e r.key)) _ _ (grind (arith, nat_tests, none r.key)))
 
 -- the keys of a new store drop nothing when they are written
 first_excess : (ws : List Write) (k : ℕ) → per_key (λ j. excess record_depth (written_to j ws) (of_key j (first_records key_count))) k ≡ 0
@@ -178,10 +179,6 @@ room_as fit fit' size size' same long = ap (λ b. room_for b size') same ∙ ap 
 pub fit_where_room : (fit : Bool) (size : ℕ) → 0 < room_for fit size → fit ≡ true
 fit_where_room true size some = refl
 fit_where_room false size some = absurd (omega (arith, some))
-
--- and where none is dropped, all stay
-pub all_stay : (e : ℕ → ℕ) (rs : List Record) → ((k : ℕ) → e k ≡ 0) → rs ≡ drop_firsts e rs
-all_stay e rs none = sym (drops_none e rs none)
 
 -- where none goes of all keys together, none goes of any
 pub none_goes : (p : PerKey) (ws : List Write) → total_of (λ k. excess_for record_depth (written_to k ws) (number_for p k)) ≡ 0 → (k : ℕ) → excess_for record_depth (written_to k ws) (number_for p k) ≡ 0

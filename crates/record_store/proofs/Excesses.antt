@@ -15,7 +15,7 @@ use Rattle.records.proofs.Changes.{excess}
 use Rattle.records.specs.Records.{of_key}
 use Rattle.records.specs.declared.per_key.PerKey.{PerKey}
 use Rattle.records.specs.declared.record.Record.{Record}
-use Rattle.record_store.specs.Counts.{CountsOf, excess_for}
+use Rattle.records.specs.Counts.{CountsOf, excess_for}
 
 excess_at : (depth : ℕ) (o : Option ℕ) (vs : List Version) → excess depth o vs ≡ excess_for depth o (length vs)
 excess_at depth None vs = refl

@@ -6,30 +6,23 @@ use Rattle.records.proofs.Uniqueness.{one_list}
 use Rattle.records.specs.Layouts.{HoldsFor, ListsVersions}
 use Rattle.records.specs.Records.{no_record}
 use Rattle.records.specs.declared.record.Record.{Record}
-use Rattle.record_store.specs.Slices.{LiesIn}
-use Rattle.record_store.specs.Tables.{HoldsOnly, LaidOut}
-
-lists_of : (m : Meaning) (mem : List Record) (l : LaidOut m mem) → ListsVersions m l.front
-lists_of m mem l = record { ordered = l.ordered; in_range = l.in_range; versions = l.versions }
+use Rattle.records.specs.Slices.{LiesIn}
+use Rattle.record_store.specs.Tables.{HoldsOnly}
 
 pub laid_only : (m : Meaning) (mem front : List Record) → ListsVersions m front → LiesIn front mem → HoldsOnly m mem
 laid_only m mem front lists lies = (
-  record { front = front; whole = lies; ordered = lists.ordered; in_range = lists.in_range; versions = lists.versions },
+  record { front = front; lists = lists; lies = lies },
   (λ other long there.
-      there.whole
-      ∙ ap (λ xs. xs ++ replicate (length other - length xs) no_record) (one_list m front there.front lists (lists_of m other there))
+      there.lies
+      ∙ ap (λ xs. xs ++ replicate (length other - length xs) no_record) (one_list m front there.front lists there.lists)
       ∙ ap (λ n. front ++ replicate (n - length front) no_record) long
       ∙ sym lies),
 )
 
--- fit memory holds what the store means, and other memory what it held
+-- fit memory holds what the store means
 pub laid_in_fit : (fit : Bool) (m : Meaning) (before mem : List Record) → HoldsFor LiesIn m mem (if fit then None else Some before) → fit ≡ true → HoldsOnly m mem
 laid_in_fit true m before mem h e = laid_only m mem h.0 h.1 h.3
 laid_in_fit false m before mem h e = absurd (both_ways true (sym e) refl)
-
-pub left_in_unfit : (fit : Bool) (m : Meaning) (before mem : List Record) → HoldsFor LiesIn m mem (if fit then None else Some before) → fit ≡ false → mem ≡ before
-left_in_unfit true m before mem h e = absurd (both_ways true e refl)
-left_in_unfit false m before mem h e = h
 
 -- so it is after calls, whether they were made or not
 pub laid_after :

@@ -10,7 +10,7 @@ use Rattle.std.specs.List.{copy_within, list_all}
 use borrow.Rule.Slice.PartMut.{put_mid}
 use Rattle.records.specs.Records.{no_record}
 use Rattle.records.specs.declared.record.Record.{Record}
-use Rattle.record_store.specs.Slices.{is_zero, zeros_after}
+use Rattle.records.specs.Slices.{is_zero, zeros_after}
 
 pub zeroed : (n : ℕ) → list_all is_zero (replicate n no_record) ≡ true
 zeroed zero = refl

@@ -1,4 +1,1 @@
-pub mod Slices
-pub mod SliceLaws
-pub mod Counts
 pub mod Tables

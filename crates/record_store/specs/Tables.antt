@@ -1,14 +1,11 @@
 -- A table: which memory is fit for it, what it means, and what its memory holds.
-use Rattle.std.specs.Prelude.{◌≡◌, ℕ, ◌-◌, true, if◌then◌else◌, List, ◌++◌, length, take, replicate, Ok, Err, Result}
-use Rattle.std.specs.List.{AllByRecursion}
-use Rattle.snapshot.specs.Limits.{is_key}
+use Rattle.std.specs.Prelude.{◌≡◌, ℕ, if◌then◌else◌, List, length, take, Ok, Err, Result}
 use Rattle.snapshot.specs.declared.fault.Fault.{Fault}
 use Rattle.snapshot.specs.declared.fault.Refusal.TheVariants.{UnfitMemory}
 use Rattle.store.specs.Meaning.{Meaning, store_fault}
-use Rattle.records.specs.Layouts.{capacity_for, in_order, records_meaning}
-use Rattle.records.specs.Records.{no_record, of_key}
+use Rattle.records.specs.Layouts.{ListsVersions, capacity_for, records_meaning}
 use Rattle.records.specs.declared.record.Record.{Record}
-use Rattle.record_store.specs.Slices.{is_table_size}
+use Rattle.records.specs.Slices.{LiesIn, is_table_size}
 
 -- a table's memory is checked by a call of its own
 abbrev pub memory_check : ℕ → Result (Unit {0}) Fault
@@ -25,10 +22,8 @@ table_meaning mem n last = records_meaning (is_table_size (length mem)) (length 
 -- the memory holds the kept versions from the start, by timestamp, then key, and zeros after them
 pub record LaidOut (m : Meaning) (mem : List Record) : Type 0 where
   pub front : List Record
-  pub whole : mem ≡ front ++ replicate (length mem - length front) no_record
-  pub ordered : in_order front ≡ true
-  pub in_range : AllByRecursion (λ r. is_key r.key ≡ true) front
-  pub versions : (k : ℕ) → of_key k front ≡ m.kept k
+  pub lists : ListsVersions m front
+  pub lies : LiesIn front mem
 
 -- and no other records in memory of that size do
 abbrev pub OnlyLayout : Meaning → List Record → Type 0

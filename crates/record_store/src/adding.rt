@@ -4,7 +4,7 @@ ghost use Rattle.snapshot.specs.Limits.{key_count, most_records};
 ghost use Rattle.store.specs.Meaning.{new_store};
 ghost use Rattle.records.specs.Layouts.{are_sound, capacity_for, loan_of, memory_meaning, room_for};
 ghost use Rattle.records.specs.Records.{first_records, written};
-ghost use Rattle.record_store.specs.Counts.{CountsOf};
+ghost use Rattle.records.specs.Counts.{CountsOf};
 
 use crate::memory::RecordMemory;
 use records::per_key::PerKey;

@@ -4,7 +4,7 @@ ghost use Rattle.snapshot.specs.Limits.{most_records};
 ghost use Rattle.store.specs.Meaning.{written_to};
 ghost use Rattle.records.specs.PerKeys.{number_for, total_of};
 ghost use Rattle.records.specs.Records.{drop_firsts, no_record};
-ghost use Rattle.record_store.specs.Counts.{CountsOf, excess_for};
+ghost use Rattle.records.specs.Counts.{CountsOf, excess_for};
 
 use crate::memory::RecordMemory;
 use records::per_key::PerKey;

@@ -7,7 +7,7 @@ ghost use Rattle.records.specs.declared.record.Record.{Record as ARecord};
 
 use records::record::Record;
 
-// Places for records, from 0. What a store does not write to stays as it is.
+// Places for records, from 0.
 pub trait RecordMemory {
     // what stands at its places
     ghost records: { Self → List ARecord };

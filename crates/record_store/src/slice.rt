@@ -1,7 +1,7 @@
 // A slice of records that a caller lends, as memory: 64 to 1,024 records are fit for a store.
 ghost use Rattle.std.specs.Prelude.{◌≡◌, ◌-◌, ◌≤◌, length};
 ghost use Rattle.std.specs.List.{copy_within};
-ghost use Rattle.record_store.specs.Slices.{LiesIn, is_table_size, zeros_after};
+ghost use Rattle.records.specs.Slices.{LiesIn, is_table_size, zeros_after};
 
 use crate::memory::RecordMemory;
 use records::record::{NO_RECORD, Record};
@@ -64,7 +64,7 @@ fn move_run(records: &mut [Record], start: usize, end: usize, to: usize)
 }
 
 impl RecordMemory for &mut [Record] {
-    ghost use Rattle.record_store.specs.SliceLaws.{fit_bounds, lies_in};
+    ghost use Rattle.records.proofs.SliceLaws.{fit_bounds, lies_in};
 
     ghost records = { λ m. m.now };
 

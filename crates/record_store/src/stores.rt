@@ -7,7 +7,7 @@ ghost use Rattle.store.specs.Meaning.{new_store, newest_at, pruned_at, versions_
 ghost use Rattle.records.specs.Layouts.{Loan, HoldsVersions, are_sound, capacity_for, loan_of, memory_meaning, record_depth, room_for};
 ghost use Rattle.records.specs.PerKeys.{number_for, total_of};
 ghost use Rattle.records.specs.Records.{drop_firsts, if_fits};
-ghost use Rattle.record_store.specs.Counts.{CountsOf, excess_for};
+ghost use Rattle.records.specs.Counts.{CountsOf, excess_for};
 
 use crate::adding::{append, begin};
 use crate::dropping::{count_versions, drop_runs, excess_versions, total_excess};
@@ -48,13 +48,6 @@ impl<M: RecordMemory> RecordStore<M> {
             last: 0,
             counts,
         }
-    }
-
-    // The memory as it is now.
-    pub fn memory(&self) -> &M
-        ensures { result.now ≡ self.now.memory }
-    {
-        &self.memory
     }
 
     // How many records there is room for.

@@ -1,16 +1,16 @@
 -- What a commit and a prune leave of records, drawn from the versions of each key.
-use Rattle.std.proofs.Common.{ℕ, ◌-◌, List, ◌++◌, map, length, Some, None, Option}
+use Rattle.std.proofs.Common.{ℕ, List, ◌++◌, map, length, Option}
 use Rattle.snapshot.specs.declared.account.Write.{Write}
 use Rattle.store.specs.Meaning.{outdated, written_to}
 use Rattle.store.specs.declared.version.Version.{Version}
+use Rattle.records.specs.Counts.{excess_for}
 use Rattle.records.specs.PerKeys.{per_key}
 use Rattle.records.specs.Records.{drop_firsts, of_key, written}
 use Rattle.records.specs.declared.record.Record.{Record}
 
 -- how many of a key's versions have to go so that with one more there are no more than the depth; none if it gets no more
 abbrev pub excess : ℕ → Option ℕ → List Version → ℕ
-excess depth None vs = 0
-excess depth (Some x) vs = length vs - (depth - 1)
+excess depth o vs = excess_for depth o (length vs)
 
 -- the list after a commit of these writes: the written keys drop what is too much, and each write adds a record
 abbrev pub after_writes : ℕ → ℕ → List Write → List Record → List Record

@@ -13,3 +13,4 @@ pub mod Finding
 pub mod Outdated
 pub mod Changes
 pub mod Others
+pub mod SliceLaws

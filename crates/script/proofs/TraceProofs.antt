@@ -3,7 +3,7 @@ use Rattle.std.proofs.Common.{◌≡◌, ℕ, ◌+◌, ◌≤◌, min, Bool, tru
 use Rattle.std.proofs.lemmas.Bool.Decides.{nat_tests}
 use Rattle.snapshot.specs.Limits.{key_count, most_records}
 use Rattle.store.specs.Meaning.{new_store}
-use Rattle.record_store.specs.Slices.{is_table_size}
+use Rattle.records.specs.Slices.{is_table_size}
 use Rattle.record_store.specs.Tables.{capacity_of}
 use Rattle.engine_model.specs.Engines.{Engine, new_engine}
 use Rattle.engine_model.specs.Traces.{NewStore, new_newest, new_table}

@@ -3,7 +3,7 @@ ghost use Rattle.std.specs.Prelude.{◌≡◌, ◌+◌, ◌≤◌, true, false, 
 ghost use Rattle.store.specs.Calls.{after_store_calls, store_answers};
 ghost use Rattle.store.specs.Meaning.{new_store};
 ghost use Rattle.records.specs.Layouts.{record_depth};
-ghost use Rattle.record_store.specs.Slices.{is_table_size};
+ghost use Rattle.records.specs.Slices.{is_table_size};
 ghost use Rattle.record_store.specs.Tables.{HoldsOnly, capacity_of};
 
 use crate::record::Record;

@@ -9,8 +9,8 @@ use Rattle.records.proofs.Holding.{holds_versions}
 use Rattle.records.specs.Layouts.{record_depth}
 use Rattle.records.specs.declared.record.Record.{Record}
 use Rattle.record_store.proofs.Laying.{laid_in_fit}
-use Rattle.record_store.specs.SliceLaws.{lies_in}
-use Rattle.record_store.specs.Slices.{LiesIn, is_table_size}
+use Rattle.records.proofs.SliceLaws.{lies_in}
+use Rattle.records.specs.Slices.{LiesIn, is_table_size}
 use Rattle.record_store.specs.Tables.{HoldsOnly, table_meaning}
 use Rattle.engine_model.specs.Engines.{new_engine}
 use Rattle.engine.specs.Performing.{answers_to, engine_after_calls}

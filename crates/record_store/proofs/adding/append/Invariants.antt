@@ -1,7 +1,7 @@
 -- The records of the writes so far stand behind the others, and are counted.
 use Rattle.std.proofs.Common.{◌≡◌, ◌+◌, ◌++◌, true, length, map, take}
 use Rattle.records.specs.Records.{written}
-use Rattle.record_store.specs.Counts.{CountsOf}
+use Rattle.records.specs.Counts.{CountsOf}
 use Rattle.record_store.proofs.adding.append.Given as goal
 
 abbrev pub invariant-loop-write : goal.invariant-loop-write

@@ -1,7 +1,7 @@
 -- The first records of the keys so far, and their counts.
 use Rattle.std.proofs.Common.{◌≡◌, true, length, take}
 use Rattle.records.specs.Records.{first_records}
-use Rattle.record_store.specs.Counts.{CountsOf}
+use Rattle.records.specs.Counts.{CountsOf}
 use Rattle.record_store.proofs.adding.start.Given as goal
 
 abbrev pub invariant-loop-key : goal.invariant-loop-key

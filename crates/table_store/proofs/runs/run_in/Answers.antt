@@ -1,5 +1,5 @@
 -- Fit memory holds what the table means when it is let go.
-use Rattle.std.proofs.Common.{◌≡◌, List, MatchResult, length, ap, subst, rules}
+use Rattle.std.proofs.Common.{List, MatchResult, length, ap, subst, rules}
 use Rattle.std.proofs.lemmas.Bool.{cond-true}
 use Rattle.snapshot.specs.Limits.{key_count}
 use Rattle.store.specs.Calls.{after_store_calls}
@@ -7,7 +7,7 @@ use Rattle.store.specs.Meaning.{new_store}
 use Rattle.records.specs.Layouts.{record_depth}
 use Rattle.records.specs.declared.record.Record.{Record}
 use Rattle.record_store.proofs.Laying.{laid_after}
-use Rattle.record_store.specs.Slices.{is_table_size}
+use Rattle.records.specs.Slices.{is_table_size}
 use Rattle.record_store.specs.Tables.{HoldsOnly}
 use Rattle.table_store.proofs.runs.run_in.Goals as goal
 

@@ -4,7 +4,7 @@ use Rattle.records.proofs.Remaining.{left_counts}
 use Rattle.records.specs.Layouts.{are_sound}
 use Rattle.records.specs.PerKeys.{number_for}
 use Rattle.record_store.proofs.Commits.{pruned_sound, room_as, sound_as}
-use Rattle.record_store.specs.Counts.{CountsOf}
+use Rattle.records.specs.Counts.{CountsOf}
 use Rattle.record_store.proofs.stores.RecordStore.drop_oldest.Goals as goal
 
 pub invariant_of-self : goal.invariant_of-self

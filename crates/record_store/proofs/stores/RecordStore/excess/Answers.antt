@@ -9,7 +9,7 @@ use Rattle.records.proofs.Capacities.{room_bound, room_le}
 use Rattle.records.proofs.Counting.{counted_within}
 use Rattle.records.specs.Layouts.{room_for}
 use Rattle.records.specs.PerKeys.{number_for, total_of}
-use Rattle.record_store.specs.Counts.{excess_for}
+use Rattle.records.specs.Counts.{excess_for}
 use Rattle.record_store.proofs.Commits.{no_more_go, nothing_unfit, room_decides}
 use Rattle.record_store.proofs.stores.RecordStore.excess.Goals as goal
 

@@ -7,7 +7,7 @@ use Rattle.records.proofs.Dropping.{same_function}
 use Rattle.records.specs.Layouts.{are_sound}
 use Rattle.records.specs.PerKeys.{number_for}
 use Rattle.records.specs.Records.{drop_firsts}
-use Rattle.record_store.specs.Counts.{excess_for}
+use Rattle.records.specs.Counts.{excess_for}
 use Rattle.record_store.proofs.Commits.{all_stay, left_over, none_goes}
 use Rattle.record_store.proofs.stores.RecordStore.make_room.Goals as goal
 

@@ -2,8 +2,8 @@
 use Rattle.std.proofs.Common.{◌≤◌, length, arith}
 use Rattle.records.proofs.Capacities.{room_le}
 use Rattle.records.proofs.Holding.{holds_versions}
-use Rattle.record_store.specs.SliceLaws.{lies_in}
-use Rattle.record_store.specs.Slices.{LiesIn, is_table_size}
+use Rattle.records.proofs.SliceLaws.{lies_in}
+use Rattle.records.specs.Slices.{LiesIn, is_table_size}
 use Rattle.record_store.specs.Tables.{table_meaning}
 use Rattle.record_store.proofs.Laying.{laid_in_fit}
 use Rattle.record_store.proofs.table.«RecordStore+mut+slice+Record».records.Goals as goal

@@ -6,7 +6,7 @@ use Rattle.std.proofs.lemmas.Bool.{and_parts, eqb-true, leb-true}
 use Rattle.snapshot.specs.Limits.{key_count, least_records, most_records}
 use Rattle.records.specs.Records.{no_record}
 use Rattle.records.specs.declared.record.Record.{Record}
-use Rattle.record_store.specs.Slices.{LiesIn, is_table_size, is_zero, zeros_after}
+use Rattle.records.specs.Slices.{LiesIn, is_table_size, is_zero, zeros_after}
 
 pub fit_bounds : (mem : List Record) → is_table_size (length mem) ≡ true → (key_count ≤ length mem) × (length mem ≤ most_records)
 fit_bounds mem fit =
