@@ -1,5 +1,5 @@
 // Adding records after the last, and the records of a new store.
-ghost use Rattle.std.specs.Prelude.{◌≡◌, ℕ, ◌+◌, ◌≤◌, ◌<◌, [], ◌∷◌, ◌++◌, true, length, map, take};
+ghost use Rattle.std.specs.Prelude.{◌≡◌, ◌+◌, ◌≤◌, ◌<◌, [], ◌∷◌, ◌++◌, true, length, map, take};
 ghost use Rattle.snapshot.specs.Limits.{key_count, most_records};
 ghost use Rattle.store.specs.Meaning.{new_store};
 ghost use Rattle.records.specs.Layouts.{are_sound, capacity_for, loan_of, memory_meaning, room_for};

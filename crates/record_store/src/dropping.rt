@@ -1,5 +1,5 @@
 // What a commit or a prune drops, by numbers for each key, and the moving of what stays.
-ghost use Rattle.std.specs.Prelude.{◌≡◌, ℕ, ◌-◌, ◌≤◌, ◌<◌, true, length, take, drop, slice_index_or};
+ghost use Rattle.std.specs.Prelude.{◌≡◌, ℕ, ◌-◌, ◌≤◌, ◌<◌, true, length, take, slice_index_or};
 ghost use Rattle.snapshot.specs.Limits.{most_records};
 ghost use Rattle.store.specs.Meaning.{written_to};
 ghost use Rattle.records.specs.PerKeys.{number_for, total_of};

@@ -1,8 +1,8 @@
 // The store of records: a list of records in any memory, with how many there are of each key, and the last timestamp.
-ghost use Rattle.std.specs.Prelude.{◌≡◌, ℕ, ◌+◌, ◌-◌, ◌<◌, ◌≤◌, ◌++◌, true, false, length, map, take, Ok, IfOk};
+ghost use Rattle.std.specs.Prelude.{◌≡◌, ◌+◌, ◌-◌, ◌<◌, ◌≤◌, true, length, take, Ok, IfOk};
 ghost use Rattle.std.specs.Result.{result_and};
 ghost use Rattle.std.proofs.Common.{lit≤};
-ghost use Rattle.snapshot.specs.Limits.{is_key, key_count};
+ghost use Rattle.snapshot.specs.Limits.{is_key};
 ghost use Rattle.store.specs.Meaning.{new_store, newest_at, pruned_at, versions_kept, with_writes, written_to};
 ghost use Rattle.records.specs.Layouts.{Loan, HoldsVersions, are_sound, capacity_for, loan_of, memory_meaning, record_depth, room_for};
 ghost use Rattle.records.specs.PerKeys.{number_for, total_of};

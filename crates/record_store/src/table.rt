@@ -1,6 +1,5 @@
 // A table: the store of records over a slice that a caller lends. It is fit for a table with 64 to 1,024 records.
 ghost use Rattle.std.specs.Prelude.{◌≡◌, true, length};
-ghost use Rattle.records.specs.Layouts.{memory_meaning};
 ghost use Rattle.records.specs.Slices.{is_table_size};
 ghost use Rattle.record_store.specs.Tables.{HoldsOnly, memory_check, table_meaning};
 
