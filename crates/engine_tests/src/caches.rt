@@ -233,14 +233,20 @@ fn notice_of_a_key_without_entry_has_no_effect(rt: HostRuntime) {
     assert_eq!(rt; held(&empty, 0), None);
 }
 
-#[test]
-fn notices_of_first_and_last_entry_leave_the_order_of_use(rt: HostRuntime) {
+// A full cache, after notices of its first and of its last entry.
+fn first_and_last_noticed() -> Cache {
     let mut cache = full();
     cache.take_notice(notice(0, reading(1, 30, 30)));
     cache.take_notice(notice(7, reading(2, 31, 31)));
+    cache
+}
+
+#[test]
+fn notices_of_first_and_last_entry_leave_the_order_of_use(rt: HostRuntime) {
+    is_in_order(&rt, first_and_last_noticed(), [0, 1, 2, 3, 4, 5, 6, 7]);
+    let mut cache = first_and_last_noticed();
     assert_eq!(rt; held(&cache, 0), Some(reading(1, 30, 30)));
     assert_eq!(rt; held(&cache, 7), Some(reading(2, 31, 31)));
-    is_in_order(&rt, cache, [0, 1, 2, 3, 4, 5, 6, 7]);
     cache.use_latest(entry(9, reading(3, 32, 32)));
     assert_eq!(rt; held(&cache, 0), None);
     assert_eq!(rt; held(&cache, 7), Some(reading(2, 31, 31)));
