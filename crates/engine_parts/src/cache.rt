@@ -1,7 +1,7 @@
 // A worker's cache: at most eight entries, one for a key, in the order of their use.
 ghost use Rattle.std.specs.Prelude.{◌≡◌, ℕ, [], ◌∷◌, ◌++◌, remove};
 ghost use Rattle.engine_model.specs.Caches as model;
-ghost use Rattle.engine_parts.specs.Caches.{caches_of};
+ghost use Rattle.engine_parts.specs.Caches.{cache_of, caches_of};
 
 use crate::list::BoundedList;
 use engine_model::records::{CacheEntry, Notice};
@@ -26,13 +26,12 @@ pub struct Cache {
 }
 
 impl Model for Cache {
-    ghost use Rattle.engine_model.specs.Caches.{Cache};
     ghost use Rattle.engine_parts.specs.Lists.{elements_of};
-    ghost use Rattle.engine_parts.specs.Caches.{CountsEntries};
+    ghost use Rattle.engine_parts.specs.Caches.{CacheFields, CountsEntries};
 
-    ghost Value = { Cache };
+    ghost Value = { CacheFields };
 
-    ghost view = { λ c. elements_of c.entries };
+    ghost view = { λ c. record { entries = c.entries; counts = c.counts } };
 
     ghost invariant = { λ c. CountsEntries c.counts (elements_of c.entries) };
 }
@@ -40,7 +39,7 @@ impl Model for Cache {
 impl Cache {
     // A cache without entries.
     pub fn new() -> Cache
-        ensures { result ≡ [] }
+        ensures { cache_of result ≡ [] }
     {
         Cache {
             entries: BoundedList::new(),
@@ -50,14 +49,14 @@ impl Cache {
 
     // Has the worker an entry of this key?
     pub fn holds(&self, key: u8) -> bool
-        ensures { result ≡ model.holds key self.now }
+        ensures { result ≡ model.holds key (cache_of self.now) }
     {
         self.counts[usize::from(key)] > 0
     }
 
     // The entry of a key, if there is one.
     pub fn look_up(&self, key: u8) -> Option<CacheEntry>
-        ensures { result ≡ model.look_up key self.now }
+        ensures { result ≡ model.look_up key (cache_of self.now) }
     {
         if !self.holds(key) {
             return None;
@@ -67,7 +66,7 @@ impl Cache {
 
     // The entry that answers a read of the key on a leg with this interval: the key's entry, if it meets the interval.
     pub fn answering(&self, interval: Interval, key: u8) -> Option<CacheEntry>
-        ensures { result ≡ model.answering interval key self.now }
+        ensures { result ≡ model.answering interval key (cache_of self.now) }
     {
         let entry = self.look_up(key)?;
         if interval.meets(entry.reading) {
@@ -79,7 +78,7 @@ impl Cache {
 
     // An entry becomes the latest used, in the place of its key's; a ninth takes that of the entry used longest ago.
     pub fn use_latest(&mut self, entry: CacheEntry)
-        ensures { self.new ≡ model.used_latest entry self.old }
+        ensures { cache_of self.new ≡ model.used_latest entry (cache_of self.old) }
     {
         self.take_out(entry.key);
         self.add_latest(entry);
@@ -88,7 +87,7 @@ impl Cache {
     // After the store answered for a key at this time: the answer becomes the latest used entry, unless the key's entry is
     // later than that time.
     pub fn keep_answer(&mut self, time: u64, answer: CacheEntry)
-        ensures { self.new ≡ model.with_answer time answer self.old }
+        ensures { cache_of self.new ≡ model.with_answer time answer (cache_of self.old) }
     {
         let later = self
             .look_up(answer.key)
@@ -102,7 +101,7 @@ impl Cache {
     // the order of use. Without an entry of the key there is no effect.
     #[tactic(auto, using(crate::proofs::CacheLemmas::no_entry_unchanged, crate::proofs::CacheLemmas::notified_at))]
     pub fn take_notice(&mut self, notice: Notice)
-        ensures { self.new ≡ model.with_notice notice self.old }
+        ensures { cache_of self.new ≡ model.with_notice notice (cache_of self.old) }
     {
         let Some(place) = find(self.entries.as_slice(), notice.key) else {
             return;
@@ -115,7 +114,7 @@ impl Cache {
 
     // Takes out the entry of a key.
     fn take_out(&mut self, key: u8)
-        ensures { self.new ≡ model.without key self.old }
+        ensures { cache_of self.new ≡ model.without key (cache_of self.old) }
     {
         if !self.holds(key) {
             return;
@@ -128,7 +127,7 @@ impl Cache {
 
     // Adds an entry at the end, and where there are more than eight the first gives way.
     fn add_latest(&mut self, entry: CacheEntry)
-        ensures { self.new ≡ model.last_eight (self.old ++ entry ∷ []) }
+        ensures { cache_of self.new ≡ model.last_eight (cache_of self.old ++ entry ∷ []) }
     {
         if self.entries.is_full() {
             self.drop_first();
@@ -139,7 +138,7 @@ impl Cache {
 
     // Drops the entry that was used longest ago, if there is one.
     fn drop_first(&mut self)
-        ensures { self.new ≡ remove self.old 0 }
+        ensures { cache_of self.new ≡ remove (cache_of self.old) 0 }
     {
         if let Some(first) = self.entries.get(0) {
             self.entries.remove(0);

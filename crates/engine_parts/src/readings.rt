@@ -1,7 +1,7 @@
 // A chain's readings in order, at most 32.
 ghost use Rattle.std.specs.Prelude.{◌≡◌, ◌≤◌, false, if◌then◌else◌, [], ◌∷◌, ◌++◌, length, nat_lt};
 ghost use Rattle.engine_model.specs.Steps.{own_reading};
-ghost use Rattle.engine_parts.specs.KeysRead.{reads_key};
+ghost use Rattle.engine_parts.specs.KeysRead.{readings_of, reads_key};
 
 use crate::list::BoundedList;
 use engine_model::records::{LegAndKey, LegReading};
@@ -17,14 +17,12 @@ pub struct Readings {
 }
 
 impl Model for Readings {
-    ghost use Rattle.std.specs.Prelude.{List};
-    ghost use Rattle.engine_model.specs.declared.records.LegReading.{LegReading};
     ghost use Rattle.engine_parts.specs.Lists.{elements_of};
-    ghost use Rattle.engine_parts.specs.KeysRead.{KnowsKeys};
+    ghost use Rattle.engine_parts.specs.KeysRead.{ReadingsFields, KnowsKeys};
 
-    ghost Value = { List LegReading };
+    ghost Value = { ReadingsFields };
 
-    ghost view = { λ r. elements_of r.list };
+    ghost view = { λ r. record { list = r.list; read = r.read } };
 
     ghost invariant = { λ r. KnowsKeys r.read (elements_of r.list) };
 }
@@ -32,7 +30,7 @@ impl Model for Readings {
 impl Readings {
     // No readings.
     pub fn new() -> Readings
-        ensures { result ≡ [] }
+        ensures { readings_of result ≡ [] }
     {
         Readings {
             list: BoundedList::new(),
@@ -42,7 +40,7 @@ impl Readings {
 
     // Drops all readings.
     pub fn clear(&mut self)
-        ensures { self.new ≡ [] }
+        ensures { readings_of self.new ≡ [] }
     {
         self.list.clear();
         self.read = [false; KEYS as usize];
@@ -50,7 +48,7 @@ impl Readings {
 
     // How many readings there are.
     pub fn len(&self) -> usize
-        ensures value { result ≡ length self.now }
+        ensures value { result ≡ length (readings_of self.now) }
         ensures fits { result ≤ 32 }
     {
         self.list.len()
@@ -58,7 +56,7 @@ impl Readings {
 
     // The readings, from the first to the last.
     pub fn as_slice(&self) -> &[LegReading]
-        ensures value { result.now ≡ self.now }
+        ensures value { result.now ≡ readings_of self.now }
         ensures fits { length result.now ≤ 32 }
     {
         self.list.as_slice()
@@ -66,7 +64,7 @@ impl Readings {
 
     // The first reading of the key that this leg has made, if there is one.
     pub fn own(&self, leg: u8, key: u8) -> Option<LegReading>
-        ensures { result ≡ own_reading leg key self.now }
+        ensures { result ≡ own_reading leg key (readings_of self.now) }
     {
         if !self.may_read(key) {
             return None;
@@ -76,8 +74,9 @@ impl Readings {
 
     // Adds a reading at the end, and answers whether there was room.
     pub fn push(&mut self, reading: LegReading) -> bool
-        ensures room { result ≡ nat_lt (length self.old) 32 }
-        ensures after { self.new ≡ (if result then self.old ++ reading ∷ [] else self.old) }
+        ensures room { result ≡ nat_lt (length (readings_of self.old)) 32 }
+        ensures after { readings_of self.new ≡ (if result then readings_of self.old ++ reading ∷ [] else readings_of self.old) }
+        ensures unchanged { result ≡ false → self.new ≡ self.old }
     {
         if !self.list.push(reading) {
             return false;
@@ -90,7 +89,7 @@ impl Readings {
 
     // Can there be a reading of the key?
     fn may_read(&self, key: u8) -> bool
-        ensures { result ≡ false → reads_key key self.now ≡ false }
+        ensures { result ≡ false → reads_key key (readings_of self.now) ≡ false }
     {
         !is_key(key) || self.read[usize::from(key)]
     }

@@ -3,23 +3,24 @@ use Rattle.std.proofs.lemmas.Bool.Decides.{nat_tests}
 use Rattle.std.proofs.lemmas.Bool.{cond-false}
 use Rattle.std.proofs.lemmas.List.{length-drop}
 use Rattle.engine_parts.proofs.CountLemmas.{few, one_more, recounted}
-use Rattle.engine_parts.specs.Caches.{entries_of_key}
+use Rattle.engine_parts.specs.Caches.{cache_of, entries_of_key}
 use Rattle.engine_parts.specs.Lists.{elements_of}
 use Rattle.engine_parts.proofs.cache.Cache.add_latest.Goals as goal
 use Rattle.engine_parts.proofs.cache.Cache.add_latest.Goals.{then-is_full, else-is_full}
 
 room : (c : goal.After-self-1) → length (elements_of c.self-2.inside.entries) < 8
 room c =
-    let is = ap length c.self-2.view_is in
+    let is = ap (λ v. length (cache_of v)) c.self-2.view_is in
     elim c.if-is_full.branch [
       | then-is_full w ↦
-          let dropped = ap length (w.self-is ∙ w.drop_first.ensures) in
-          let before = ap length c.self.view_is in
+          let dropped = ap (λ v. length (cache_of v)) w.self-is in
+          let fewer = ap length w.drop_first.ensures in
+          let before = ap (λ v. length (cache_of v)) c.self.view_is in
           let fits = c.is_full.ensures.fits in
-          grind (arith, nat_tests, is, dropped, before, fits, length-drop 1 c.args.self.now)
+          grind (arith, nat_tests, is, dropped, fewer, before, fits, length-drop 1 (cache_of c.args.self.now))
       | else-is_full w ↦
-          let same = ap length w.self-is in
-          let before = ap length c.self.view_is in
+          let same = ap (λ v. length (cache_of v)) w.self-is in
+          let before = ap (λ v. length (cache_of v)) c.self.view_is in
           grind (arith, nat_tests, is, same, before, c.is_full.ensures.value, w.if-is_full.false)
     ]
 

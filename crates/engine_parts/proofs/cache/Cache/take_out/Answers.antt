@@ -3,16 +3,16 @@ use Rattle.std.proofs.lemmas.Bool.Decides.{nat_tests}
 use Rattle.engine_model.specs.Caches.{holds, without}
 use Rattle.engine_parts.proofs.CacheLemmas.{nothing_out}
 use Rattle.engine_parts.proofs.CountLemmas.{none_out, out_at, one_less, others_stay, recounted}
-use Rattle.engine_parts.specs.Caches.{entries_of_key}
+use Rattle.engine_parts.specs.Caches.{cache_of, entries_of_key}
 use Rattle.engine_parts.specs.Lists.{elements_of}
 use Rattle.engine_parts.proofs.cache.Cache.take_out.Goals as goal
 
 pub returns-then-not-holds : goal.returns-then-not-holds
-returns-then-not-holds c = sym (none_out c.args.key c.args.self.now (search rules))
+returns-then-not-holds c = sym (none_out c.args.key (cache_of c.args.self.now) (search rules))
 
 pub returns-in_default : goal.returns-in_default
 returns-in_default c =
-    sym (nothing_out c.args.key c.args.self.now (search rules))
+    sym (nothing_out c.args.key (cache_of c.args.self.now) (search rules))
 
 pub overflow_sub-self : goal.overflow_sub-self
 overflow_sub-self c =
@@ -42,4 +42,4 @@ returns-in-Some c =
     let k = c.args.key in
     let entries = elements_of c.self.inside.entries in
     let found : elements_of c.remove.new.self ≡ without k entries = search (rules, out_at) in
-    found ∙ ap (without k) c.self.view_is
+    found ∙ ap (λ v. without k (cache_of v)) c.self.view_is

@@ -1,6 +1,6 @@
 use Rattle.std.proofs.Common.{ℕ, [], slice_index_or, sym, ap, ◌∙◌, arith}
 use Rattle.engine_model.specs.Caches.{holds}
-use Rattle.engine_parts.specs.Caches.{caches_of}
+use Rattle.engine_parts.specs.Caches.{cache_of, caches_of}
 use Rattle.engine_parts.specs.WaitingNotices.{notices_of}
 use Rattle.engine_parts.proofs.ItemLemmas.{item_there}
 use Rattle.engine_parts.proofs.NoticeLemmas.{one_is_notified, one_is_not, one_write_less}
@@ -13,7 +13,7 @@ loop-worker-preserved c =
     let write = slice_index_or c.args.writes.now c.loop-write.write-index record { key = 0; value = 0 } in
     let n = c.loop-worker.worker in
     let holder = λ (n : ℕ). holds write.key (caches_of caches n) in
-    let there = item_there (λ cache. cache) [] caches n c.index-caches-worker.result (omega arith) in
+    let there = item_there cache_of [] caches n c.index-caches-worker.result (omega arith) in
     elim c.if-holds.branch [
       | then-holds w ↦
           ap notices_of w.self-is
