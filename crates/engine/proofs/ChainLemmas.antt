@@ -8,6 +8,7 @@ use Rattle.snapshot.specs.Intervals.{from_to}
 use Rattle.snapshot.specs.Limits.{leg_count}
 use Rattle.snapshot.specs.declared.fault.EngineFault.{EngineFault}
 use Rattle.engine_parts.proofs.ItemLemmas.{item_set, item_there, item_past, item_pushed}
+use Rattle.engine_parts.specs.KeysRead.{ReadingsFields, readings_of}
 use Rattle.engine_parts.specs.Lists.{item_at}
 use Rattle.engine_model.proofs.Updates.{at_other}
 use Rattle.engine_model.specs.declared.records.LegReading.{LegReading}
@@ -85,7 +86,7 @@ leg_opened c o new lt is =
 
 -- a chain of no legs and no readings
 pub none_opened :
-    (legs : List Leg) (readings : List LegReading) → readings ≡ [] →
+    (legs : List Leg) (readings : ReadingsFields) → readings_of readings ≡ [] →
     chain_of (record { legs = legs; opened = 0; readings = readings }) ≡ model.no_legs
 none_opened legs readings none =
     let C : (ℕ → model.LegState) → List LegReading → model.Chain = λ f rs. record { legs = f; opened = 0; readings = rs } in

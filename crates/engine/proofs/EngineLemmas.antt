@@ -8,7 +8,7 @@ use Rattle.snapshot.specs.declared.fault.EngineFault.{EngineFault}
 use Rattle.snapshot.specs.declared.fault.Refusal.TheVariants.{OutOfRange}
 use Rattle.store.specs.Meaning.{Meaning}
 use Rattle.engine_parts.specs.Lists.{item_at}
-use Rattle.engine_parts.specs.Caches.{caches_of}
+use Rattle.engine_parts.specs.Caches.{CacheFields, caches_of}
 use Rattle.engine_parts.specs.WaitingNotices.{notices_of}
 use Rattle.engine_parts.specs.declared.notices.Notices.{Notices}
 use Rattle.engine_parts.proofs.ItemLemmas.{item_set, item_there}
@@ -194,7 +194,7 @@ module _ (m : Meaning) (e : State) (p : ℕ) (d : Place) (within : p < length e.
 
   -- another chain stands there, and the caches are others
   pub read_called :
-      (r : Result ℕ EngineFault) (after : Chain) (caches : List model_caches.Cache) (step : WithEngine ℕ) → (place_in d e p).is_taken ≡ true →
+      (r : Result ℕ EngineFault) (after : Chain) (caches : List CacheFields) (step : WithEngine ℕ) → (place_in d e p).is_taken ≡ true →
       ◌≡◌ {A = WithEngine ℕ} (r, with_caches (engine_over m e) p (chain_of after, caches_of caches)) step →
       ◌≡◌ {A = WithEngine ℕ}
       (r, engine_over m (record e { places = set e.places p (record (place_in d e p) { chain = after }); caches = caches }))
@@ -212,7 +212,7 @@ module _ (m : Meaning) (e : State) (p : ℕ) (d : Place) (within : p < length e.
 
 module _ (m : Meaning) (e : State) where
   pub caches_changed :
-      (caches : List model_caches.Cache) (meant : ℕ → model_caches.Cache) → caches_of caches ≡ meant →
+      (caches : List CacheFields) (meant : ℕ → model_caches.Cache) → caches_of caches ≡ meant →
       engine_over m (record e { caches = caches })
       ≡ record {
         places = (engine_over m e).places;

@@ -4,7 +4,8 @@ ghost use Rattle.std.specs.Result.{result_map_both};
 ghost use Rattle.std.specs.Prelude.{◌≡◌, ◌<◌, ◌≤◌, length, map, Ok, OnOk, OnErr, OnSome, nat_lt};
 ghost use Rattle.snapshot.specs.Limits.{chain_readings, leg_count};
 ghost use Rattle.engine_model.specs.Engines as model;
-ghost use Rattle.engine_parts.specs.Caches.{caches_of};
+ghost use Rattle.engine_parts.specs.Caches.{cache_of, caches_of};
+ghost use Rattle.engine_parts.specs.KeysRead.{readings_of};
 ghost use Rattle.engine.specs.ChainCalls.{after_hand, after_fork, after_join, after_write, further_reading, after_read};
 ghost use Rattle.engine.specs.Chains.{chain_of};
 ghost use Rattle.engine.specs.Commits.{committing_leg, answer_and_lists};
@@ -283,7 +284,7 @@ impl Chain {
     // Narrows the leg that made a reading, and adds the reading to those of the chain.
     fn note(&mut self, reading: LegReading)
         requires within { (reading.leg < 16) × (reading.leg < self.old.opened) }
-        requires room { length self.old.readings < 32 }
+        requires room { length (readings_of self.old.readings) < 32 }
         ensures { chain_of self.new ≡ model.add_reading reading (model.with_leg reading.leg (leg_after (call.Narrow reading.made.reading) ((chain_of self.old).legs reading.leg)).1 (chain_of self.old)) }
     {
         let LegReading { leg, made } = reading;
@@ -335,7 +336,7 @@ impl Chain {
 
     // Adds a reading to those of the chain, if there is room.
     fn add_reading(&mut self, reading: LegReading)
-        requires { length self.old.readings < 32 }
+        requires { length (readings_of self.old.readings) < 32 }
         ensures { chain_of self.new ≡ model.add_reading reading (chain_of self.old) }
     {
         let _ = self.readings.push(reading);
@@ -350,7 +351,7 @@ fn look_further<S: Reads>(
     interval: Interval,
     key: u8,
 ) -> Result<Reading, Fault>
-    ensures made { (result, cache.new) ≡ further_reading (S.Reads.meaning store.now) interval key cache.old }
+    ensures made { (result, cache_of cache.new) ≡ further_reading (S.Reads.meaning store.now) interval key (cache_of cache.old) }
     ensures unchanged { OnErr result (cache.new ≡ cache.old) }
 {
     match cache.answering(interval, key) {

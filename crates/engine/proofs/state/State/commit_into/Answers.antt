@@ -6,6 +6,7 @@ use Rattle.std.proofs.lemmas.Result.{err_from_is_err_and}
 use Rattle.snapshot.specs.Refusals.{around_store}
 use Rattle.snapshot.specs.declared.fault.Refusal.TheVariants.{NotOpen}
 use Rattle.engine_model.specs.Steps.{account_for, chain_fault}
+use Rattle.engine_parts.specs.KeysRead.{readings_of}
 use Rattle.engine.specs.Chains.{chain_of}
 use Rattle.engine.specs.Commits.{answer_and_lists}
 use Rattle.engine.specs.Engines.{engine_over}
@@ -59,7 +60,7 @@ account-head-requires-clause-readings_fit g c =
     let n = c.args.named in
     let range = passed leg_in_range n n _ _ refl c.check_leg.ensures c.in_ok-check_leg.was in
     let within : n.place < length e.places = grind (arith, nat_tests) in
-    let same = ap (λ here. length here.chain.readings) (get_or_default e.places n.place c.index-self-named-in-Ok.result c.index-self-named.result within) in
+    let same = ap (λ here. length (readings_of here.chain.readings)) (get_or_default e.places n.place c.index-self-named-in-Ok.result c.index-self-named.result within) in
     let room = has_room c.args.named _ _ (chain_of (place_in c.index-self-named.result c.args.self.now c.args.named.place).chain) (lent_leg c.in_ok-leg.field-0) (sym c.committing_leg.ensures.value ∙ ap (result_map_both lent_leg (λ f. f)) c.in_ok-leg.was) in
     grind (arith, nat_tests, same, room)
 
@@ -69,7 +70,6 @@ account-head-requires-clause-writes_fit g c =
     let n = c.args.named in
     let range = passed leg_in_range n n _ _ refl c.check_leg.ensures c.in_ok-check_leg.was in
     let within : n.place < length e.places = grind (arith, nat_tests) in
-    let same = ap (λ here. length here.chain.readings) (get_or_default e.places n.place c.index-self-named-in-Ok.result c.index-self-named.result within) in
     let room = has_room c.args.named _ _ (chain_of (place_in c.index-self-named.result c.args.self.now c.args.named.place).chain) (lent_leg c.in_ok-leg.field-0) (sym c.committing_leg.ensures.value ∙ ap (result_map_both lent_leg (λ f. f)) c.in_ok-leg.was) in
     grind (arith, nat_tests)
 
