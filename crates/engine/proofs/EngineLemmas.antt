@@ -1,4 +1,4 @@
--- What stands at a place of an engine, and what a change of one chain, cache or place is to the engine.
+-- What stands at a place of an engine, and what a change of one chain or place is to the engine.
 use Rattle.std.proofs.Common.{◌≡◌, ℕ, ◌<◌, Bool, true, false, List, [], ◌∷◌, length, get_or, set, Some, None, Err, Option, Result, ⊎_elim, refl, ap, ◌∙◌, sym, Ok}
 use Rattle.std.specs.Result.{result_and, result_map_both}
 use Rattle.std.proofs.lemmas.Bool.{cond-true, cond-false, cases_lt}
@@ -9,10 +9,7 @@ use Rattle.snapshot.specs.declared.fault.Refusal.TheVariants.{OutOfRange}
 use Rattle.store.specs.Meaning.{Meaning}
 use Rattle.engine_parts.specs.Lists.{item_at}
 use Rattle.engine_parts.specs.Caches.{CacheFields, caches_of}
-use Rattle.engine_parts.specs.WaitingNotices.{notices_of}
-use Rattle.engine_parts.specs.declared.notices.Notices.{Notices}
 use Rattle.engine_parts.proofs.ItemLemmas.{item_set, item_there}
-use Rattle.engine_model.specs.Caches as model_caches
 use Rattle.engine_model.specs.Engines as model
 use Rattle.engine.specs.Chains.{chain_of}
 use Rattle.engine.specs.Engines.{engine_over}
@@ -207,26 +204,3 @@ module _ (m : Meaning) (e : State) (p : ℕ) (d : Place) (within : p < length e.
       ap E (item_set chain_at None e.places p here within)
       ∙ ap (λ x. E (with_at p x s.places)) (taken here is_taken)
       ∙ is
-
--- Caches and notices.
-
-module _ (m : Meaning) (e : State) where
-  pub caches_changed :
-      (caches : List CacheFields) (meant : ℕ → model_caches.Cache) → caches_of caches ≡ meant →
-      engine_over m (record e { caches = caches })
-      ≡ record {
-        places = (engine_over m e).places;
-        caches = meant;
-        notices = (engine_over m e).notices;
-        store = (engine_over m e).store;
-      }
-  caches_changed caches meant same =
-      let s = engine_over m e in
-      let E : (ℕ → model_caches.Cache) → model.Engine =
-      λ f. record { places = s.places; caches = f; notices = s.notices; store = s.store } in
-      ap E same
-
-  pub notices_changed :
-      (notices : Notices) (meant : model.Notices) → notices_of notices ≡ meant →
-      engine_over m (record e { notices = notices }) ≡ model.with_notices meant (engine_over m e)
-  notices_changed notices meant same = ap (λ n. model.with_notices n (engine_over m e)) same

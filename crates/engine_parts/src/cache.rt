@@ -99,7 +99,7 @@ impl Cache {
 
     // After a notice: the key's entry takes a later reading, or the larger promise of an equal one, and keeps its place in
     // the order of use. Without an entry of the key there is no effect.
-    #[tactic(auto, using(crate::proofs::CacheLemmas::no_entry_unchanged, crate::proofs::CacheLemmas::notified_at))]
+    #[tactic(auto, using(crate::proofs::CacheLemmas::no_entry_unchanged))]
     pub fn take_notice(&mut self, notice: Notice)
         ensures { cache_of self.new ≡ model.with_notice notice (cache_of self.old) }
     {
