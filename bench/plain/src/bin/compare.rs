@@ -9,8 +9,8 @@ mod proved;
 
 use plain::book::{read_accounts, read_book};
 use plain::calls::{calls_on_newest, calls_on_table};
-use plain::lives::{book, calls, script};
 use plain::play::play;
+use plain::random_scripts::{book, calls, script};
 use std::collections::BTreeMap;
 use std::io::{Read, Write};
 use std::process::{Command, ExitCode, Stdio};

@@ -18,7 +18,7 @@ enum Clock {
 }
 
 /// A script in the making, and the plain control room that plays it, so that the next line can go by the answers before it.
-struct Life<'a> {
+struct Making<'a> {
     chance: Chance,
     player: Player<'a>,
     script: Vec<u8>,
@@ -47,7 +47,7 @@ pub fn script(seed: u64) -> Vec<u8> {
         2 => (0..12).map(|_| chance.byte_below(KEYS)).collect(),
         _ => (0..KEYS).collect(),
     };
-    let mut life = Life {
+    let mut making = Making {
         player: Player::new(&mut memory),
         script: Vec::new(),
         printed: Vec::new(),
@@ -62,18 +62,18 @@ pub fn script(seed: u64) -> Vec<u8> {
         weights: std::array::from_fn(|_| 1 + chance.below(4) * chance.below(10)),
         chance,
     };
-    life.store();
-    let steps = 10 + life.chance.below(150);
+    making.store();
+    let steps = 10 + making.chance.below(150);
     for _ in 0..steps {
-        life.step();
+        making.step();
     }
-    if life.chance.percent(10) {
-        life.script.pop();
+    if making.chance.percent(10) {
+        making.script.pop();
     }
-    life.script
+    making.script
 }
 
-impl Life<'_> {
+impl Making<'_> {
     /// Adds a line, at times an odd one before it, and answers what the line printed.
     fn line(&mut self, words: &str) -> String {
         if self.chance.percent(self.odd) {
