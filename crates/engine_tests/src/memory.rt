@@ -27,7 +27,7 @@ const USED: Record = Record {
     value: 9,
 };
 
-// It has 16,056 bytes: 2,968 for each of four places, 264 for each of eight caches, 1,040 for the notices, and 1,032 for the
+// It has 18,360 bytes: 3,032 for each of four places, 520 for each of eight caches, 1,040 for the notices, and 1,032 for the
 // store.
 #[test]
 fn engine_over_the_newest_store_has_at_most_24_kib(rt: HostRuntime) {
