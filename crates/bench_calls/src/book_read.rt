@@ -1,4 +1,4 @@
-// A book, read account by account into two lists.
+//! A book, read account by account into two lists.
 
 use crate::calls_made::sum_of_account;
 use book::reader::read_account;

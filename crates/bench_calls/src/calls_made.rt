@@ -1,4 +1,4 @@
-// Lists of calls on a new engine, each made by the engine's method of its name.
+//! Lists of calls on a new engine, each made by the engine's method of its name.
 
 use engine::engine::Engine;
 use newest_store::newest::Newest;
@@ -9,8 +9,8 @@ use store::traits::Store;
 use table_store::record::NO_RECORD;
 use table_store::table::Table;
 
-// A call by its kind's number, with its numbers: `other` is a second leg or a first worker, `last` a worker or a key, `number`
-// a clock reading, a position or a horizon.
+/// A call by its kind's number, with its numbers: `other` is a second leg or a first worker, `last` a worker or a key, `number`
+/// a clock reading, a position or a horizon.
 #[repr(C)]
 #[derive(Clone, Copy)]
 pub struct NumberedCall {

@@ -1,4 +1,4 @@
-// An account as a caller has it, and whether it is lawful: the rules that its numbers, readings and writes keep.
+//! An account as a caller has it, and whether it is lawful: the rules that its numbers, readings and writes keep.
 ghost use Rattle.std.specs.Prelude.{◌≡◌, ◌^◌, ◌<◌, true, ◌&&◌, nat_lt};
 ghost use Rattle.std.specs.List.{AllByRecursion, list_all};
 ghost use Rattle.snapshot.specs.Accounts.{CommonTimes, agreed_ends, few_enough, lawful, sound_reading, sound_timestamp, greatest_timestamp, least_promise};
@@ -11,8 +11,8 @@ use snapshot::interval::Interval;
 use snapshot::limits::{CHAIN_READINGS, OPEN_END, WRITE_KEYS, is_key, is_timestamp, is_worker};
 use snapshot::writes::are_rising;
 
-// The account of a committed chain: its final interval, its timestamp (0 if nothing was written), its readings in order,
-// and its writes.
+/// The account of a committed chain: its final interval, its timestamp (0 if nothing was written), its readings in order,
+/// and its writes.
 #[derive(Clone, Copy, PartialEq, Eq, Debug)]
 pub struct Account<'a> {
     pub interval: Interval,
@@ -22,7 +22,7 @@ pub struct Account<'a> {
 }
 
 impl Account<'_> {
-    // Is the account lawful?
+    /// Is the account lawful?
     pub fn is_lawful(&self) -> bool
         ensures value { result ≡ lawful (as_account self.now) }
         ensures means { result ≡ true → CommonTimes (as_account self.now) }

@@ -1,4 +1,4 @@
-// An account that was found lawful.
+//! An account that was found lawful.
 ghost use Rattle.std.specs.Prelude.{◌≡◌, true, IfSome, OnSome, is_some};
 ghost use Rattle.snapshot.specs.Accounts.{lawful};
 ghost use Rattle.book.specs.Format.{as_account};

@@ -1,4 +1,4 @@
-// The book of accounts: an account's bytes, written and read, the reading of a whole book, and its listing.
+//! The book of accounts: an account's bytes, written and read, the reading of a whole book, and its listing.
 #![tactic(auto)]
 
 pub mod account;

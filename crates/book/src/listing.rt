@@ -1,4 +1,4 @@
-// The reading of a whole book, and the text that lists its accounts.
+//! The reading of a whole book, and the text that lists its accounts.
 ghost use Rattle.std.specs.Prelude.{◌≡◌, ◌+◌, ◌/◌, ◌≤◌, true, length, is_ok, IfOk, OnErr, Some, vec_len, vec_capacity};
 ghost use Rattle.book.specs.Books.{ListedBehind, ReadBehind, AccountOrRefused, listing_text};
 ghost use Rattle.book.specs.Format.{size_of};
@@ -9,11 +9,11 @@ use snapshot::fault::BookFault;
 use std::alloc::AllocError;
 use std::fmt;
 
-// Reads a book from its first byte: account after account, to its end or to the first that is refused. Adds the five
-// numbers of each account to the list, and answers the fault of the account at which the reading ended; none at the end of
-// the book. The only error is want of memory. Then the list has those of the accounts read so far, at least as many in all as
-// it had room for, and one account more stands in the book. It does not come where the list has room for as many accounts as
-// a book of that length can have.
+/// Reads a book from its first byte: account after account, to its end or to the first that is refused. Adds the five
+/// numbers of each account to the list, and answers the fault of the account at which the reading ended; none at the end of
+/// the book. The only error is want of memory. Then the list has those of the accounts read so far, at least as many in all as
+/// it had room for, and one account more stands in the book. It does not come where the list has room for as many accounts as
+/// a book of that length can have.
 pub fn read_book(book: &[u8], heads: &mut Vec<AccountHead>) -> Result<Option<BookFault>, AllocError>
     ensures listed { IfOk result (λ e. ListedBehind heads.old.items heads.new.items book.now e) }
     ensures so_far { OnErr result (ReadBehind heads.old.items heads.new.items book.now) }
@@ -42,8 +42,8 @@ fn read_head(book: &[u8], start: usize) -> Result<AccountAt, BookFault>
     Ok(stored.account().located(start))
 }
 
-// A listing's text: a line for each account with its five numbers; then `end` and the number of accounts, or `bad`, the
-// number of the refusal and the place of the refused account.
+/// A listing's text: a line for each account with its five numbers; then `end` and the number of accounts, or `bad`, the
+/// number of the refusal and the place of the refused account.
 #[derive(Clone, Copy)]
 pub struct Listing<'a> {
     pub heads: &'a [AccountHead],

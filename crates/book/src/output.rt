@@ -1,4 +1,4 @@
-// From an input to an output: the listing of the book that the input has.
+//! From an input to an output: the listing of the book that the input has.
 ghost use Rattle.std.specs.Prelude.{◌<◌, length, drop, take, IfOk, IfSome, MatchResult, OnErr, OnOk, string_bytes};
 ghost use Rattle.std.specs.Io.{WritesAtMost};
 ghost use Rattle.std.specs.Io.KnownBytes.{Appends, Keeps, WriteAppends};
@@ -12,9 +12,9 @@ use std::io::{self, ErrorKind, Read, Write};
 // How many bytes of an input count.
 const MOST_BYTES: u64 = 65_536;
 
-// Reads the book on the input, of which the first 65,536 bytes count, and writes the text of its listing. Fails where the
-// input cannot be read, the output cannot be written, or there is no memory. Where the bytes of input and output are known,
-// as in memory, the output has gained that text; after an error nothing, or a front of it that leaves some of it unwritten.
+/// Reads the book on the input, of which the first 65,536 bytes count, and writes the text of its listing. Fails where the
+/// input cannot be read, the output cannot be written, or there is no memory. Where the bytes of input and output are known,
+/// as in memory, the output has gained that text; after an error nothing, or a front of it that leaves some of it unwritten.
 #[tactic(auto, using(crate::proofs::Outputs::gains_none, crate::proofs::Outputs::gains_front, crate::proofs::Outputs::gains_listing))]
 pub fn list_book<R: Read + Drop, W: Write>(heap: Global, input: R, output: &mut W) -> io::Result<()>
     ensures lists { OnOk result (IfSome (R.Read.remaining input) (λ rest. GainsListing (take most_bytes rest) (W.contents output.old) (W.contents output.new))) }
@@ -49,8 +49,8 @@ fn first_bytes<R: Read + Drop>(heap: Global, input: R) -> io::Result<Vec<u8>>
     Ok(bytes)
 }
 
-// Writes all the bytes, in as many writes as it takes. Fails where the output cannot be written, takes none of the bytes
-// that are left, or was interrupted too often; then only a front of the bytes is written, and some of them are left.
+/// Writes all the bytes, in as many writes as it takes. Fails where the output cannot be written, takes none of the bytes
+/// that are left, or was interrupted too often; then only a front of the bytes is written, and some of them are left.
 #[tactic(auto, using(crate::proofs::Outputs::some_written, crate::proofs::Outputs::rest_left))]
 pub fn write_whole<W: Write>(output: &mut W, bytes: &[u8]) -> io::Result<()>
     ensures { MatchResult result (λ _. Appends (W.contents output.old) (W.contents output.new) bytes.now) (λ _. AppendsFront (λ rest. 0 < length rest) (W.contents output.old) (W.contents output.new) bytes.now) }

@@ -1,4 +1,4 @@
-// Records of a fixed size, packed one after another, and where the parts of an account begin.
+//! Records of a fixed size, packed one after another, and where the parts of an account begin.
 ghost use Rattle.std.specs.Prelude.{◌≡◌, ℕ, ◌+◌, ◌*◌, ◌≤◌, List, length, refl};
 ghost use Rattle.std.specs.List.{flat_map};
 ghost use Rattle.snapshot.specs.Limits.{chain_readings, write_keys};

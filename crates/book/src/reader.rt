@@ -1,4 +1,4 @@
-// Reading an account at a place of a book into two lists of the caller's.
+//! Reading an account at a place of a book into two lists of the caller's.
 ghost use Rattle.std.specs.Prelude.{◌≡◌, ◌+◌, ◌^◌, ◌<◌, ◌≤◌, if◌then◌else◌, length, drop, IfOk, None, Ok, Some};
 ghost use Rattle.snapshot.specs.Accounts.{head_of, lawful};
 ghost use Rattle.snapshot.specs.Limits.{chain_readings, write_keys};
@@ -20,7 +20,7 @@ use snapshot::interval::Interval;
 use snapshot::limits::{CHAIN_READINGS, WRITE_KEYS};
 use std::marker::Model;
 
-// An account's five numbers, and the place after its bytes.
+/// An account's five numbers, and the place after its bytes.
 #[derive(Clone, Copy, PartialEq, Eq, Debug)]
 pub struct AccountAt {
     pub head: AccountHead,
@@ -127,9 +127,9 @@ impl LawfulAccount<'_> {
     }
 }
 
-// Reads the account at this place of the book into the starts of the two lists, and answers its five numbers and the
-// place after it. Checks, in this order: four bytes present, mark, counts, full length, last byte, the other rules, lists
-// long enough. A refusal leaves both lists as they were. Any place may be named, also past the end.
+/// Reads the account at this place of the book into the starts of the two lists, and answers its five numbers and the
+/// place after it. Checks, in this order: four bytes present, mark, counts, full length, last byte, the other rules, lists
+/// long enough. A refusal leaves both lists as they were. Any place may be named, also past the end.
 pub fn read_account(
     book: &[u8],
     start: usize,

@@ -1,4 +1,4 @@
-// Writing an account into a buffer of the caller's.
+//! Writing an account into a buffer of the caller's.
 ghost use Rattle.std.specs.Prelude.{◌≡◌, ◌≤◌, true, length, is_ok};
 ghost use Rattle.snapshot.specs.Overwriting.{overwritten};
 ghost use Rattle.book.specs.Calls.{buffer_after, faulted, writing};
@@ -12,12 +12,12 @@ use crate::sum::last_byte;
 use byteorder::{BigEndian, ByteOrder};
 use snapshot::fault::{BookFault, Refusal};
 
-// The two bytes with which an account begins.
+/// The two bytes with which an account begins.
 pub const MARK: [u8; 2] = [0xC3, 0x3C];
 
 impl Account<'_> {
-    // Writes the account to the start of the buffer and answers its length. Refuses an unlawful account, then a buffer
-    // that is too short; a refusal leaves the buffer as it was.
+    /// Writes the account to the start of the buffer and answers its length. Refuses an unlawful account, then a buffer
+    /// that is too short; a refusal leaves the buffer as it was.
     #[tactic(auto, using(crate::proofs::Writing::reads_back_anywhere))]
     pub fn write(&self, buffer: &mut [u8]) -> Result<usize, BookFault>
         ensures value { result ≡ faulted 0 (writing (as_account self.now) (length buffer.old)) }

@@ -1,5 +1,5 @@
-// Lists the books of data/, sound, cut and damaged ones, each behind a line with its name; the tests of writer and reader
-// stand in `tests`.
+//! Lists the books of data/, sound, cut and damaged ones, each behind a line with its name; the tests of writer and reader
+//! stand in `tests`.
 #![tactic(auto)]
 
 #[cfg(test)]

@@ -1,4 +1,4 @@
-// Tests of the book's writer and reader: what is written, every refusal with its number and place, and the order of checks.
+//! Tests of the book's writer and reader: what is written, every refusal with its number and place, and the order of checks.
 use book::account::Account;
 use book::listing::{Listing, read_book};
 use book::output::list_book;

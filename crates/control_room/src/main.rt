@@ -1,4 +1,4 @@
-// Plays the script on standard input: prints each call with its answer, as soon as its line was read.
+//! Plays the script on standard input: prints each call with its answer, as soon as its line was read.
 #![tactic(auto)]
 
 use script::play::play;

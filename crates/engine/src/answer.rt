@@ -1,4 +1,4 @@
-// What calls of an engine answer, as values.
+//! What calls of an engine answer, as values.
 ghost use Rattle.std.specs.Prelude.{◌≡◌};
 ghost use Rattle.snapshot.specs.Accounts.{head_of};
 
@@ -6,7 +6,7 @@ use snapshot::account::{AccountHead, ChainReading, Write};
 use snapshot::limits::{CHAIN_READINGS, WRITE_KEYS};
 use std::marker::Model;
 
-// The account of a committed chain, with memory of its own.
+/// The account of a committed chain, with memory of its own.
 #[derive(Drop)]
 pub struct CommittedAccount {
     pub(crate) head: AccountHead,
@@ -26,7 +26,7 @@ impl Model for CommittedAccount {
 }
 
 impl CommittedAccount {
-    // The five numbers.
+    /// The five numbers.
     #[tactic(auto, using(crate::proofs::CommitLemmas::head_shown))]
     pub fn head(&self) -> AccountHead
         ensures { result ≡ head_of self.now }
@@ -34,7 +34,7 @@ impl CommittedAccount {
         self.head
     }
 
-    // The readings, in order.
+    /// The readings, in order.
     pub fn readings(&self) -> &[ChainReading]
         ensures { result.now ≡ self.now.readings }
     {
@@ -42,7 +42,7 @@ impl CommittedAccount {
         &all[..self.head.readings]
     }
 
-    // The writes, in rising order of their keys.
+    /// The writes, in rising order of their keys.
     pub fn writes(&self) -> &[Write]
         ensures { result.now ≡ self.now.writes }
     {
@@ -51,8 +51,8 @@ impl CommittedAccount {
     }
 }
 
-// What an accepted call answers: begin, hand and join the new leg, fork the two new legs, read a value, count how many notices
-// wait and how many were lost, commit the account; the others that they are done.
+/// What an accepted call answers: begin, hand and join the new leg, fork the two new legs, read a value, count how many notices
+/// wait and how many were lost, commit the account; the others that they are done.
 #[derive(Drop)]
 pub enum Answer {
     Leg(u8),

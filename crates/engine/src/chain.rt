@@ -1,4 +1,4 @@
-// A chain: its legs by their numbers, and its readings in order.
+//! A chain: its legs by their numbers, and its readings in order.
 ghost use Rattle.std.specs.Option.{option_map, option_copied};
 ghost use Rattle.std.specs.Result.{result_map_both};
 ghost use Rattle.std.specs.Prelude.{◌≡◌, ◌<◌, ◌≤◌, length, map, Ok, OnOk, OnErr, OnSome, nat_lt};

@@ -1,4 +1,4 @@
-// The engine and its calls. A refused call answers its fault and leaves the engine as it was.
+//! The engine and its calls. A refused call answers its fault and leaves the engine as it was.
 ghost use Rattle.std.specs.Prelude.{◌≡◌, [], length, Ok, IfOk, OnErr};
 ghost use Rattle.snapshot.specs.Accounts.{account_of};
 ghost use Rattle.engine_model.specs.Engines as model;
@@ -17,7 +17,7 @@ use snapshot::account::{AccountHead, ChainReading, Write};
 use snapshot::fault::EngineFault;
 use store::traits::Store;
 
-// What the engine keeps itself, and the store below.
+/// What the engine keeps itself, and the store below.
 #[derive(Drop)]
 pub struct Engine<S> {
     pub(crate) state: State,
@@ -25,7 +25,7 @@ pub struct Engine<S> {
 }
 
 impl<S: Store> Engine<S> {
-    // An engine over a store, without chains, entries and notices. Over a new store, a trace begins here.
+    /// An engine over a store, without chains, entries and notices. Over a new store, a trace begins here.
     pub fn new(store: S) -> Engine<S>
         ensures value { engine_of S.Reads.meaning result ≡ model.new_engine (S.Reads.meaning store) }
         ensures loan { S.Store.loan result.store ≡ S.Store.loan store }
@@ -37,7 +37,7 @@ impl<S: Store> Engine<S> {
         }
     }
 
-    // The store below.
+    /// The store below.
     pub fn store(&self) -> &S
         ensures value { result.now ≡ self.now.store }
         ensures meaning { S.Reads.meaning result.now ≡ (engine_of S.Reads.meaning self.now).store }
@@ -45,8 +45,8 @@ impl<S: Store> Engine<S> {
         &self.store
     }
 
-    // Opens a chain at a free place, with its leg 0 at a worker, and answers 0, that leg's number.
-    // Refused: 1 place or worker out of range, 2 the place is not free.
+    /// Opens a chain at a free place, with its leg 0 at a worker, and answers 0, that leg's number.
+    /// Refused: 1 place or worker out of range, 2 the place is not free.
     pub fn begin(&mut self, place: u8, worker: u8) -> Result<u8, EngineFault>
         ensures step { IsStep S.Reads.meaning S.Store.DEPTH (call.Begin place worker) self.old result self.new }
         ensures reply { Replies (call.Begin place worker) result }
@@ -56,8 +56,8 @@ impl<S: Store> Engine<S> {
         self.state.begin(place, worker)
     }
 
-    // Ends a leg and opens the next at a worker, with the same interval and write set; answers the new leg's number.
-    // Refused: 1 place, leg or worker out of range, 3 that leg is not open, 5 sixteen legs have been opened.
+    /// Ends a leg and opens the next at a worker, with the same interval and write set; answers the new leg's number.
+    /// Refused: 1 place, leg or worker out of range, 3 that leg is not open, 5 sixteen legs have been opened.
     pub fn hand(&mut self, place: u8, leg: u8, worker: u8) -> Result<u8, EngineFault>
         ensures step { IsStep S.Reads.meaning S.Store.DEPTH (call.Hand place leg worker) self.old result self.new }
         ensures reply { Replies (call.Hand place leg worker) result }
@@ -67,8 +67,8 @@ impl<S: Store> Engine<S> {
         self.state.hand(place, leg, worker)
     }
 
-    // Ends a leg and opens two with its interval and write set; answers the two new numbers, the first worker's first.
-    // Refused: 1 place, leg or a worker out of range, 3 that leg is not open, 5 there is no room for two more legs.
+    /// Ends a leg and opens two with its interval and write set; answers the two new numbers, the first worker's first.
+    /// Refused: 1 place, leg or a worker out of range, 3 that leg is not open, 5 there is no room for two more legs.
     pub fn fork(
         &mut self,
         place: u8,
@@ -84,10 +84,10 @@ impl<S: Store> Engine<S> {
         self.state.fork(place, leg, first_worker, second_worker)
     }
 
-    // Ends two legs and opens one at a worker, with the times of both and the writes of both, where a key in both takes
-    // the second leg's value; answers the new leg's number. Refused: 1 place, a leg or worker out of range, 3 one of the
-    // legs is not open, 4 they are one, 5 sixteen legs have been opened, 6 they have no time in common, 7 more than eight
-    // keys are written.
+    /// Ends two legs and opens one at a worker, with the times of both and the writes of both, where a key in both takes
+    /// the second leg's value; answers the new leg's number. Refused: 1 place, a leg or worker out of range, 3 one of the
+    /// legs is not open, 4 they are one, 5 sixteen legs have been opened, 6 they have no time in common, 7 more than eight
+    /// keys are written.
     pub fn join(
         &mut self,
         place: u8,
@@ -103,9 +103,9 @@ impl<S: Store> Engine<S> {
         self.state.join(place, first_leg, second_leg, worker)
     }
 
-    // Answers a key's value: from the leg's write set, else from a reading of the leg, else from its worker's cache, else
-    // from the store. Refused: 1 place, leg or key out of range, 3 that leg is not open, 8 cache or store would be needed
-    // for a 33rd reading, 15 the store has dropped the version.
+    /// Answers a key's value: from the leg's write set, else from a reading of the leg, else from its worker's cache, else
+    /// from the store. Refused: 1 place, leg or key out of range, 3 that leg is not open, 8 cache or store would be needed
+    /// for a 33rd reading, 15 the store has dropped the version.
     pub fn read(&mut self, place: u8, leg: u8, key: u8) -> Result<u32, EngineFault>
         ensures step { IsStep S.Reads.meaning S.Store.DEPTH (call.Read place leg key) self.old result self.new }
         ensures reply { Replies (call.Read place leg key) result }
@@ -115,8 +115,8 @@ impl<S: Store> Engine<S> {
         self.state.read(&self.store, place, leg, key)
     }
 
-    // Sets a key's value in the leg's write set.
-    // Refused: 1 place, leg or key out of range, 3 that leg is not open, 7 the write set would pass eight keys.
+    /// Sets a key's value in the leg's write set.
+    /// Refused: 1 place, leg or key out of range, 3 that leg is not open, 7 the write set would pass eight keys.
     pub fn write(&mut self, place: u8, leg: u8, key: u8, value: u32) -> Result<(), EngineFault>
         ensures step { IsStep S.Reads.meaning S.Store.DEPTH (call.Write place leg key value) self.old result self.new }
         ensures reply { Replies (call.Write place leg key value) result }
@@ -126,12 +126,12 @@ impl<S: Store> Engine<S> {
         self.state.write(place, leg, key, value)
     }
 
-    // Commits a chain by its only open leg: the store takes the leg's writes, their notices are raised, and the place is free
-    // again. Without writes the store is not called, and the clock reading is not looked at. Fills the starts of the two lists
-    // with the chain's readings in order and the writes, and leaves their rest; answers the account's five numbers. In every trace
-    // that led to the engine, with the commit added, the account keeps its law, and so the book takes it. Refused: 1 place or leg
-    // out of range, 3 that leg is not open, 9 another leg is open, 10 a list is too short, and by the store 12 the clock reading is
-    // too high, 13 no time is left, 14 there is no room for more versions.
+    /// Commits a chain by its only open leg: the store takes the leg's writes, their notices are raised, and the place is free
+    /// again. Without writes the store is not called, and the clock reading is not looked at. Fills the starts of the two lists
+    /// with the chain's readings in order and the writes, and leaves their rest; answers the account's five numbers. In every trace
+    /// that led to the engine, with the commit added, the account keeps its law, and so the book takes it. Refused: 1 place or leg
+    /// out of range, 3 that leg is not open, 9 another leg is open, 10 a list is too short, and by the store 12 the clock reading is
+    /// too high, 13 no time is left, 14 there is no room for more versions.
     pub fn commit(
         &mut self,
         place: u8,
@@ -157,7 +157,7 @@ impl<S: Store> Engine<S> {
             .commit_into(&mut self.store, named, clock, room, readings, writes)
     }
 
-    // Frees a place. Refused: 1 place out of range, 3 no chain is open there.
+    /// Frees a place. Refused: 1 place out of range, 3 no chain is open there.
     pub fn abandon(&mut self, place: u8) -> Result<(), EngineFault>
         ensures step { IsStep S.Reads.meaning S.Store.DEPTH (call.Abandon place) self.old result self.new }
         ensures reply { Replies (call.Abandon place) result }
@@ -167,8 +167,8 @@ impl<S: Store> Engine<S> {
         self.state.abandon(place)
     }
 
-    // Shows a waiting notice, by its position from 0, to its worker's cache, and leaves it waiting.
-    // Refused: 16 no notice waits at that position.
+    /// Shows a waiting notice, by its position from 0, to its worker's cache, and leaves it waiting.
+    /// Refused: 16 no notice waits at that position.
     pub fn deliver(&mut self, position: u64) -> Result<(), EngineFault>
         ensures step { IsStep S.Reads.meaning S.Store.DEPTH (call.Deliver position) self.old result self.new }
         ensures reply { Replies (call.Deliver position) result }
@@ -178,7 +178,7 @@ impl<S: Store> Engine<S> {
         self.state.deliver(position)
     }
 
-    // Removes a waiting notice, and later ones move up. Refused: 16 no notice waits at that position.
+    /// Removes a waiting notice, and later ones move up. Refused: 16 no notice waits at that position.
     pub fn discard(&mut self, position: u64) -> Result<(), EngineFault>
         ensures step { IsStep S.Reads.meaning S.Store.DEPTH (call.Discard position) self.old result self.new }
         ensures reply { Replies (call.Discard position) result }
@@ -188,7 +188,7 @@ impl<S: Store> Engine<S> {
         self.state.discard(position)
     }
 
-    // How many notices wait, and how many were lost.
+    /// How many notices wait, and how many were lost.
     pub fn count(&self) -> (usize, u64)
         ensures step { IsStep S.Reads.meaning S.Store.DEPTH call.Count self.now (Ok result) self.now }
         ensures reply { Replies call.Count (Ok result) }
@@ -196,8 +196,8 @@ impl<S: Store> Engine<S> {
         self.state.count()
     }
 
-    // The store drops of each key the versions older than the newest one that is above neither the horizon nor the last
-    // timestamp.
+    /// The store drops of each key the versions older than the newest one that is above neither the horizon nor the last
+    /// timestamp.
     pub fn prune(&mut self, horizon: u64)
         ensures step { IsStep S.Reads.meaning S.Store.DEPTH (call.Prune horizon) self.old (Ok tt) self.new }
         ensures reply { Replies (call.Prune horizon) (Ok tt) }

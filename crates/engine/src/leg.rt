@@ -1,4 +1,4 @@
-// A leg of a chain: one function's run in it.
+//! A leg of a chain: one function's run in it.
 ghost use Rattle.std.specs.Option.{option_map, option_copied};
 ghost use Rattle.std.specs.Prelude.{◌≡◌, OnErr};
 ghost use Rattle.std.specs.Result.{result_map_both};

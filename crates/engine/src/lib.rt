@@ -1,4 +1,4 @@
-// The engine: open chains with their legs, workers' caches and notices over any store.
+//! The engine: open chains with their legs, workers' caches and notices over any store.
 #![tactic(auto)]
 
 pub mod answer;

@@ -1,4 +1,4 @@
-// The place, leg and key that a call names: whether they are in range, and the faults with which the call is refused.
+//! The place, leg and key that a call names: whether they are in range, and the faults with which the call is refused.
 ghost use Rattle.std.specs.Prelude.{◌≡◌, Ok};
 ghost use Rattle.std.specs.Result.{result_and, result_map_both};
 ghost use Rattle.snapshot.specs.Limits.{is_worker};

@@ -1,4 +1,4 @@
-// The twelve calls as one, which takes the call as a value.
+//! The twelve calls as one, which takes the call as a value.
 ghost use Rattle.std.specs.Prelude.{◌≡◌, OnErr};
 ghost use Rattle.engine_model.specs.declared.calls.Call.TheVariants as call;
 ghost use Rattle.engine.specs.Engines.{engine_of, engine_over, StepFollows};
@@ -18,9 +18,9 @@ use snapshot::limits::{CHAIN_READINGS, WRITE_KEYS};
 use store::traits::Store;
 
 impl<S: Store> Engine<S> {
-    // Makes the call. Refused as the call of that name is: the reply is an answer of the call's kind, or one of the refusals that
-    // the table has for the call. Every trace that led to the engine goes on by this call and its answer, and keeps the law of
-    // traces.
+    /// Makes the call. Refused as the call of that name is: the reply is an answer of the call's kind, or one of the refusals that
+    /// the table has for the call. Every trace that led to the engine goes on by this call and its answer, and keeps the law of
+    /// traces.
     pub fn perform(&mut self, call: Call) -> Result<Answer, EngineFault>
         ensures step { (result, engine_of S.Reads.meaning self.new) ≡ performed S.Store.DEPTH call (engine_of S.Reads.meaning self.old) }
         ensures loan { S.Store.loan self.new.store ≡ S.Store.loan self.old.store }

@@ -1,4 +1,4 @@
-// A place for a chain. It keeps the chain's memory when it is free, for the next chain that begins there.
+//! A place for a chain. It keeps the chain's memory when it is free, for the next chain that begins there.
 ghost use Rattle.std.specs.Prelude.{◌≡◌, ℕ, Some, None};
 ghost use Rattle.engine_model.specs.Engines.{new_chain};
 ghost use Rattle.engine_parts.specs.Lists.{item_at};

@@ -1,4 +1,4 @@
-// A list of calls on a new engine, which owns its store or borrows it.
+//! A list of calls on a new engine, which owns its store or borrows it.
 ghost use Rattle.std.specs.Prelude.{◌≡◌, ◌+◌, ◌≤◌, true, ◌++◌, length, is_ok, vec_len, vec_capacity, MatchResult, OnOk};
 ghost use Rattle.engine_model.specs.Engines.{new_engine};
 ghost use Rattle.engine.specs.Engines.{engine_of, engine_over};
@@ -13,10 +13,10 @@ use snapshot::fault::EngineFault;
 use std::alloc::AllocError;
 use store::traits::Store;
 
-// Performs the calls in order on a new engine over the store, adds their answers to the list, and hands back the engine.
-// Succeeds wherever the list has room for the answers; else it may fail, for want of memory, and then no call has been
-// performed. Where the store is new, the calls with their answers are a trace that keeps the law of traces, and so is that of
-// the first n calls, for every n.
+/// Performs the calls in order on a new engine over the store, adds their answers to the list, and hands back the engine.
+/// Succeeds wherever the list has room for the answers; else it may fail, for want of memory, and then no call has been
+/// performed. Where the store is new, the calls with their answers are a trace that keeps the law of traces, and so is that of
+/// the first n calls, for every n.
 pub fn run<S: Store>(
     store: S,
     calls: &[Call],
@@ -33,8 +33,8 @@ pub fn run<S: Store>(
     (engine, done)
 }
 
-// Performs the calls in order on a new engine over a store that is borrowed, as `run` does. The store then means what the rules
-// make of it by these calls, and memory that was lent to it holds just that. For want of memory the store is left as it was.
+/// Performs the calls in order on a new engine over a store that is borrowed, as `run` does. The store then means what the rules
+/// make of it by these calls, and memory that was lent to it holds just that. For want of memory the store is left as it was.
 pub fn run_over<S: Store>(
     store: &mut S,
     calls: &[Call],

@@ -1,5 +1,5 @@
-// What an engine keeps besides its store. The calls are those of the engine: those that need a store are given one, and the
-// others do the same over every store.
+//! What an engine keeps besides its store. The calls are those of the engine: those that need a store are given one, and the
+//! others do the same over every store.
 ghost use Rattle.std.specs.Prelude.{◌≡◌, ◌≤◌, min, length, Ok, OnErr};
 ghost use Rattle.snapshot.specs.Limits.{chain_readings, write_keys};
 ghost use Rattle.snapshot.specs.Refusals.{not_named, own_fault, unnamed};

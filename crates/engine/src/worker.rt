@@ -1,4 +1,4 @@
-// A worker, as a type whose every value is one of the eight, so that each has a cache.
+//! A worker, as a type whose every value is one of the eight, so that each has a cache.
 ghost use Rattle.std.specs.Prelude.{◌≡◌, ◌<◌, Some, None, if◌then◌else◌};
 ghost use Rattle.std.specs.Option.{option_map};
 ghost use Rattle.snapshot.specs.Limits.{is_worker};

@@ -1,6 +1,6 @@
-// An engine's calls as values.
+//! An engine's calls as values.
 
-// One call of an engine. A commit also says how many entries the caller's two lists have room for.
+/// One call of an engine. A commit also says how many entries the caller's two lists have room for.
 #[derive(Clone, Copy)]
 pub enum Call {
     Begin {

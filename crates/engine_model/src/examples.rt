@@ -1,4 +1,4 @@
-// Traces that show what the law of traces says, and that it says something, as lists of calls.
+//! Traces that show what the law of traces says, and that it says something, as lists of calls.
 ghost use Rattle.std.specs.Prelude.{◌≡◌};
 ghost use Rattle.engine_model.specs.Examples as example;
 ghost use Rattle.engine_model.specs.declared.calls.Call.TheVariants as call;
@@ -70,7 +70,7 @@ fn prune(horizon: u64) -> Call
     Call::Prune { horizon }
 }
 
-// A late notice, a split chain and a dropped version meet. Key 7 is the dock's zone, 9 its set record, 11 the guard's orders.
+/// A late notice, a split chain and a dropped version meet. Key 7 is the dock's zone, 9 its set record, 11 the guard's orders.
 pub fn break_in() -> [Call; 21]
     ensures calls { result ≡ example.break_in }
     ensures shows { example.BreakIn }
@@ -107,8 +107,8 @@ pub fn break_in() -> [Call; 21]
     ]
 }
 
-// A chain reads the zone, and before it commits another one writes it. By rules under which narrowing forgets the promise, a
-// commit after these calls shows what was not so.
+/// A chain reads the zone, and before it commits another one writes it. By rules under which narrowing forgets the promise, a
+/// commit after these calls shows what was not so.
 pub fn written_behind() -> [Call; 8]
     ensures calls { result ≡ example.written_behind }
     ensures breaks { example.IgnoredPromise }
@@ -125,9 +125,9 @@ pub fn written_behind() -> [Call; 8]
     ]
 }
 
-// A chain that has read at time 10 reads the old zone after another one has written it, and commits; the next one reads the old
-// zone from worker 1's cache, where the first has left it. By rules under which a promise is one too late, the first chain's
-// account lists a reading that is not true, and a commit after these calls shows what was not so.
+/// A chain that has read at time 10 reads the old zone after another one has written it, and commits; the next one reads the old
+/// zone from worker 1's cache, where the first has left it. By rules under which a promise is one too late, the first chain's
+/// account lists a reading that is not true, and a commit after these calls shows what was not so.
 pub fn read_from_cache() -> [Call; 12]
     ensures calls { result ≡ example.read_from_cache }
     ensures lists { example.LatePromiseListed }

@@ -1,5 +1,5 @@
-// The calls of an engine's trace, the records that the engine keeps, and the law of traces, which is proved here of the
-// rules themselves.
+//! The calls of an engine's trace, the records that the engine keeps, and the law of traces, which is proved here of the
+//! rules themselves.
 #![tactic(auto)]
 
 pub mod calls;

@@ -1,24 +1,24 @@
-// The records that an engine keeps in its caches, its chains and its list of notices, and how they are found.
+//! The records that an engine keeps in its caches, its chains and its list of notices, and how they are found.
 ghost use Rattle.std.specs.Prelude.{◌==◌, ◌&&◌};
 
 use snapshot::account::{ChainReading, Reading};
 use snapshot::find::Keyed;
 
-// What a worker's cache holds of a key.
+/// What a worker's cache holds of a key.
 #[derive(Clone, Copy, Default)]
 pub struct CacheEntry {
     pub key: u8,
     pub reading: Reading,
 }
 
-// A chain's reading, and the leg that made it.
+/// A chain's reading, and the leg that made it.
 #[derive(Clone, Copy, Default)]
 pub struct LegReading {
     pub leg: u8,
     pub made: ChainReading,
 }
 
-// Tells a worker of a new version of a key that its cache holds.
+/// Tells a worker of a new version of a key that its cache holds.
 #[derive(Clone, Copy, Default)]
 pub struct Notice {
     pub worker: u8,
@@ -35,7 +35,7 @@ impl Keyed<u8> for CacheEntry {
     }
 }
 
-// The leg that made a reading, and the key that it read.
+/// The leg that made a reading, and the key that it read.
 #[derive(Clone, Copy)]
 pub struct LegAndKey {
     pub leg: u8,

@@ -1,4 +1,4 @@
-// A worker's cache: at most eight entries, one for a key, in the order of their use.
+//! A worker's cache: at most eight entries, one for a key, in the order of their use.
 ghost use Rattle.std.specs.Prelude.{◌≡◌, ℕ, [], ◌∷◌, ◌++◌, remove};
 ghost use Rattle.engine_model.specs.Caches as model;
 ghost use Rattle.engine_parts.specs.Caches.{cache_of, caches_of};
@@ -11,14 +11,14 @@ use snapshot::interval::Interval;
 use snapshot::limits::{CACHE_KEYS, WORKERS};
 use std::marker::Model;
 
-// How many caches there are: one for a worker.
+/// How many caches there are: one for a worker.
 pub const CACHES: usize = WORKERS as usize;
 
 // How many keys can be told apart.
 const ALL_KEYS: usize = 256;
 
-// The entries, the one used longest ago first, and how many there are of each key, so that a key without an entry is not looked
-// for.
+/// The entries, the one used longest ago first, and how many there are of each key, so that a key without an entry is not looked
+/// for.
 #[derive(Drop)]
 pub struct Cache {
     entries: BoundedList<CacheEntry, CACHE_KEYS>,
@@ -37,7 +37,7 @@ impl Model for Cache {
 }
 
 impl Cache {
-    // A cache without entries.
+    /// A cache without entries.
     pub fn new() -> Cache
         ensures { cache_of result ≡ [] }
     {
@@ -47,14 +47,14 @@ impl Cache {
         }
     }
 
-    // Has the worker an entry of this key?
+    /// Has the worker an entry of this key?
     pub fn holds(&self, key: u8) -> bool
         ensures { result ≡ model.holds key (cache_of self.now) }
     {
         self.counts[usize::from(key)] > 0
     }
 
-    // The entry of a key, if there is one.
+    /// The entry of a key, if there is one.
     pub fn look_up(&self, key: u8) -> Option<CacheEntry>
         ensures { result ≡ model.look_up key (cache_of self.now) }
     {
@@ -64,7 +64,7 @@ impl Cache {
         self.entries.with_key(key)
     }
 
-    // The entry that answers a read of the key on a leg with this interval: the key's entry, if it meets the interval.
+    /// The entry that answers a read of the key on a leg with this interval: the key's entry, if it meets the interval.
     pub fn answering(&self, interval: Interval, key: u8) -> Option<CacheEntry>
         ensures { result ≡ model.answering interval key (cache_of self.now) }
     {
@@ -76,7 +76,7 @@ impl Cache {
         }
     }
 
-    // An entry becomes the latest used, in the place of its key's; a ninth takes that of the entry used longest ago.
+    /// An entry becomes the latest used, in the place of its key's; a ninth takes that of the entry used longest ago.
     pub fn use_latest(&mut self, entry: CacheEntry)
         ensures { cache_of self.new ≡ model.used_latest entry (cache_of self.old) }
     {
@@ -84,8 +84,8 @@ impl Cache {
         self.add_latest(entry);
     }
 
-    // After the store answered for a key at this time: the answer becomes the latest used entry, unless the key's entry is
-    // later than that time.
+    /// After the store answered for a key at this time: the answer becomes the latest used entry, unless the key's entry is
+    /// later than that time.
     pub fn keep_answer(&mut self, time: u64, answer: CacheEntry)
         ensures { cache_of self.new ≡ model.with_answer time answer (cache_of self.old) }
     {
@@ -97,8 +97,8 @@ impl Cache {
         }
     }
 
-    // After a notice: the key's entry takes a later reading, or the larger promise of an equal one, and keeps its place in
-    // the order of use. Without an entry of the key there is no effect.
+    /// After a notice: the key's entry takes a later reading, or the larger promise of an equal one, and keeps its place in
+    /// the order of use. Without an entry of the key there is no effect.
     #[tactic(auto, using(crate::proofs::CacheLemmas::no_entry_unchanged))]
     pub fn take_notice(&mut self, notice: Notice)
         ensures { cache_of self.new ≡ model.with_notice notice (cache_of self.old) }
@@ -147,7 +147,7 @@ impl Cache {
     }
 }
 
-// The caches of all workers, without entries.
+/// The caches of all workers, without entries.
 pub fn empty_caches() -> [Cache; CACHES]
     ensures { (w : ℕ) → caches_of result w ≡ [] }
 {

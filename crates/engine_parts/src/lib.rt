@@ -1,4 +1,4 @@
-// What an engine is made of: lists of bounded length, caches, write sets, readings, and the list of notices.
+//! What an engine is made of: lists of bounded length, caches, write sets, readings, and the list of notices.
 #![tactic(auto)]
 
 pub mod cache;

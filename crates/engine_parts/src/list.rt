@@ -1,5 +1,5 @@
-// A list of at most `N` entries, which lie in the value itself: no call on it asks for memory. Unlike the kit's list in
-// fixed memory it can be copied, and has no invariant: a length beyond the bound means the whole array.
+//! A list of at most `N` entries, which lie in the value itself: no call on it asks for memory. Unlike the kit's list in
+//! fixed memory it can be copied, and has no invariant: a length beyond the bound means the whole array.
 ghost use Rattle.std.specs.Prelude.{◌≡◌, ◌≤◌, false, [], ◌∷◌, ◌++◌, length, nat_le, nat_lt, if◌then◌else◌, slice_get, slice_set, remove, insert};
 ghost use Rattle.std.specs.List.{find};
 ghost use Rattle.engine_parts.specs.Lists.{elements_of};
@@ -13,7 +13,7 @@ pub struct BoundedList<T, const N: usize> {
 }
 
 impl<T: Copy + Default, const N: usize> BoundedList<T, N> {
-    // An empty list.
+    /// An empty list.
     pub fn new() -> BoundedList<T, N>
         ensures { elements_of result ≡ [] }
     {
@@ -25,7 +25,7 @@ impl<T: Copy + Default, const N: usize> BoundedList<T, N> {
 }
 
 impl<T: Copy, const N: usize> BoundedList<T, N> {
-    // How many entries there are.
+    /// How many entries there are.
     pub fn len(&self) -> usize
         ensures value { result ≡ length (elements_of self.now) }
         ensures fits { result ≤ N }
@@ -33,7 +33,7 @@ impl<T: Copy, const N: usize> BoundedList<T, N> {
         self.len.min(N)
     }
 
-    // The entries, from the first to the last.
+    /// The entries, from the first to the last.
     pub fn as_slice(&self) -> &[T]
         ensures value { result.now ≡ elements_of self.now }
         ensures fits { length result.now ≤ N }
@@ -41,7 +41,7 @@ impl<T: Copy, const N: usize> BoundedList<T, N> {
         &self.items[..self.len()]
     }
 
-    // Is there room for no more?
+    /// Is there room for no more?
     pub fn is_full(&self) -> bool
         ensures value { result ≡ nat_le N (length (elements_of self.now)) }
         ensures fits { length (elements_of self.now) ≤ N }
@@ -49,21 +49,21 @@ impl<T: Copy, const N: usize> BoundedList<T, N> {
         N <= self.len
     }
 
-    // Drops all entries.
+    /// Drops all entries.
     pub fn clear(&mut self)
         ensures { elements_of self.new ≡ [] }
     {
         self.len = 0;
     }
 
-    // The entry at this place, if there is one.
+    /// The entry at this place, if there is one.
     pub fn get(&self, place: usize) -> Option<T>
         ensures { result ≡ slice_get (elements_of self.now) place }
     {
         self.as_slice().get(place).copied()
     }
 
-    // The first entry with this key, if there is one.
+    /// The first entry with this key, if there is one.
     #[tactic(auto, using(crate::proofs::ListProofs::leads_nowhere, crate::proofs::ListProofs::leads_to_it))]
     pub fn with_key<K: Copy>(&self, key: K) -> Option<T>
     where
@@ -74,7 +74,7 @@ impl<T: Copy, const N: usize> BoundedList<T, N> {
         self.get(place)
     }
 
-    // Adds an entry at the end, and answers whether there was room.
+    /// Adds an entry at the end, and answers whether there was room.
     pub fn push(&mut self, entry: T) -> bool
         ensures room { result ≡ nat_lt (length (elements_of self.old)) N }
         ensures after { elements_of self.new ≡ (if result then elements_of self.old ++ entry ∷ [] else elements_of self.old) }
@@ -89,7 +89,7 @@ impl<T: Copy, const N: usize> BoundedList<T, N> {
         true
     }
 
-    // Puts an entry in the place of another; past the end it has no effect.
+    /// Puts an entry in the place of another; past the end it has no effect.
     #[tactic(auto, using(crate::proofs::ListProofs::put_in_front))]
     pub fn put(&mut self, place: usize, entry: T)
         ensures { elements_of self.new ≡ slice_set (elements_of self.old) place entry }
@@ -99,7 +99,7 @@ impl<T: Copy, const N: usize> BoundedList<T, N> {
         }
     }
 
-    // Takes out the entry at this place, and later ones move up; past the end it has no effect.
+    /// Takes out the entry at this place, and later ones move up; past the end it has no effect.
     #[tactic(auto, using(crate::proofs::ListProofs::moved_up))]
     pub fn remove(&mut self, place: usize)
         ensures { elements_of self.new ≡ remove (elements_of self.old) place }
@@ -111,7 +111,7 @@ impl<T: Copy, const N: usize> BoundedList<T, N> {
         }
     }
 
-    // Puts an entry before the one at this place, or at the end where there is none, and answers whether there was room.
+    /// Puts an entry before the one at this place, or at the end where there is none, and answers whether there was room.
     #[tactic(auto, using(crate::proofs::ListProofs::inserted_there))]
     pub fn insert(&mut self, place: usize, entry: T) -> bool
         ensures room { result ≡ nat_lt (length (elements_of self.old)) N }

@@ -1,4 +1,4 @@
-// A chain's readings in order, at most 32.
+//! A chain's readings in order, at most 32.
 ghost use Rattle.std.specs.Prelude.{◌≡◌, ◌≤◌, false, if◌then◌else◌, [], ◌∷◌, ◌++◌, length, nat_lt};
 ghost use Rattle.engine_model.specs.Steps.{own_reading};
 ghost use Rattle.engine_parts.specs.KeysRead.{readings_of, reads_key};
@@ -8,11 +8,11 @@ use engine_model::records::{LegAndKey, LegReading};
 use snapshot::limits::{CHAIN_READINGS, KEYS, is_key};
 use std::marker::Model;
 
-// The readings, and whether there is one of a key, so that a key that was not read is not looked for.
+/// The readings, and whether there is one of a key, so that a key that was not read is not looked for.
 #[derive(Drop)]
 pub struct Readings {
     list: BoundedList<LegReading, CHAIN_READINGS>,
-    // `as`, since the length of an array calls no function
+    /// `as`, since the length of an array calls no function
     read: [bool; KEYS as usize],
 }
 
@@ -28,7 +28,7 @@ impl Model for Readings {
 }
 
 impl Readings {
-    // No readings.
+    /// No readings.
     pub fn new() -> Readings
         ensures { readings_of result ≡ [] }
     {
@@ -38,7 +38,7 @@ impl Readings {
         }
     }
 
-    // Drops all readings.
+    /// Drops all readings.
     pub fn clear(&mut self)
         ensures { readings_of self.new ≡ [] }
     {
@@ -46,7 +46,7 @@ impl Readings {
         self.read = [false; KEYS as usize];
     }
 
-    // How many readings there are.
+    /// How many readings there are.
     pub fn len(&self) -> usize
         ensures value { result ≡ length (readings_of self.now) }
         ensures fits { result ≤ 32 }
@@ -54,7 +54,7 @@ impl Readings {
         self.list.len()
     }
 
-    // The readings, from the first to the last.
+    /// The readings, from the first to the last.
     pub fn as_slice(&self) -> &[LegReading]
         ensures value { result.now ≡ readings_of self.now }
         ensures fits { length result.now ≤ 32 }
@@ -62,7 +62,7 @@ impl Readings {
         self.list.as_slice()
     }
 
-    // The first reading of the key that this leg has made, if there is one.
+    /// The first reading of the key that this leg has made, if there is one.
     pub fn own(&self, leg: u8, key: u8) -> Option<LegReading>
         ensures { result ≡ own_reading leg key (readings_of self.now) }
     {
@@ -72,7 +72,7 @@ impl Readings {
         self.list.with_key(LegAndKey { leg, key })
     }
 
-    // Adds a reading at the end, and answers whether there was room.
+    /// Adds a reading at the end, and answers whether there was room.
     pub fn push(&mut self, reading: LegReading) -> bool
         ensures room { result ≡ nat_lt (length (readings_of self.old)) 32 }
         ensures after { readings_of self.new ≡ (if result then readings_of self.old ++ reading ∷ [] else readings_of self.old) }

@@ -1,4 +1,4 @@
-// A leg's write set: at most eight writes in rising order of their keys, one for a key.
+//! A leg's write set: at most eight writes in rising order of their keys, one for a key.
 ghost use Rattle.std.specs.Prelude.{◌≡◌, ◌≤◌, [], length, OnOk, OnErr};
 ghost use Rattle.std.specs.Result.{result_and, result_map_both};
 ghost use Rattle.store.specs.Meaning.{written_to};
@@ -11,14 +11,14 @@ use snapshot::fault::Refusal;
 use snapshot::find::find;
 use snapshot::limits::WRITE_KEYS;
 
-// The writes. `write` alone puts one in, where its key belongs.
+/// The writes. `write` alone puts one in, where its key belongs.
 #[derive(Clone, Copy)]
 pub struct WriteSet {
     writes: BoundedList<Write, WRITE_KEYS>,
 }
 
 impl WriteSet {
-    // A set without writes.
+    /// A set without writes.
     pub fn new() -> WriteSet
         ensures { writes_of result ≡ [] }
     {
@@ -27,7 +27,7 @@ impl WriteSet {
         }
     }
 
-    // The writes, from the first to the last.
+    /// The writes, from the first to the last.
     pub fn as_slice(&self) -> &[Write]
         ensures value { result.now ≡ writes_of self.now }
         ensures fits { length result.now ≤ 8 }
@@ -35,7 +35,7 @@ impl WriteSet {
         self.writes.as_slice()
     }
 
-    // The value that was written to the key, if one was.
+    /// The value that was written to the key, if one was.
     #[tactic(auto, using(crate::proofs::WriteSetLemmas::value_found))]
     pub fn value_of(&self, key: u8) -> Option<u32>
         ensures { result ≡ written_to key (writes_of self.now) }
@@ -54,8 +54,8 @@ impl WriteSet {
             .unwrap_or(writes.len())
     }
 
-    // Makes a write, which takes the place of the first one to its key, or where there is none goes before the first write to
-    // a higher key. Refused where the set would pass eight keys.
+    /// Makes a write, which takes the place of the first one to its key, or where there is none goes before the first write to
+    /// a higher key. Refused where the set would pass eight keys.
     pub fn write(&mut self, write: Write) -> Result<(), Refusal>
         ensures answer { result ≡ result_and (fit_or_refused (with_write write (writes_of self.old))) (Ok tt) }
         ensures after { OnOk result (writes_of self.new ≡ with_write write (writes_of self.old)) }
@@ -73,7 +73,7 @@ impl WriteSet {
         Ok(())
     }
 
-    // This set and a later one united: a key in both has the later one's value. Refused where that would pass eight keys.
+    /// This set and a later one united: a key in both has the later one's value. Refused where that would pass eight keys.
     pub fn join(&self, later: &WriteSet) -> Result<WriteSet, Refusal>
         ensures { result_map_both writes_of (λ e. e) result ≡ fit_or_refused (united (writes_of self.now) (writes_of later.now)) }
     {

@@ -1,4 +1,4 @@
-// Accounts of commits written to a book one after another, and read back.
+//! Accounts of commits written to a book one after another, and read back.
 use crate::builders::Seen::{Done, Leg, Legs, Value};
 use crate::builders::{answers, begin, fork, join, made, put, read, write};
 use book::account::Account;

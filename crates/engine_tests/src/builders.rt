@@ -1,5 +1,5 @@
-// An engine's calls in short, with their numbers in the order of the engine's parameters, and the answers that a test expects
-// of them.
+//! An engine's calls in short, with their numbers in the order of the engine's parameters, and the answers that a test expects
+//! of them.
 use engine::answer::Answer;
 use engine::engine::Engine;
 use engine_model::calls::Call;

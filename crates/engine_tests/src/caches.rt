@@ -1,5 +1,5 @@
-// A worker's cache: its eight entries in the order of their use, what a store's answer and a notice make of an entry, and
-// which entry answers.
+//! A worker's cache: its eight entries in the order of their use, what a store's answer and a notice make of an entry, and
+//! which entry answers.
 use engine_model::records::{CacheEntry, Notice};
 use engine_parts::cache::{CACHES, Cache};
 use snapshot::account::Reading;

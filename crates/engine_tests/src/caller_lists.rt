@@ -1,4 +1,4 @@
-// The two lists that a commit fills: exactly long enough, one short, longer than needed, and after a refusal.
+//! The two lists that a commit fills: exactly long enough, one short, longer than needed, and after a refusal.
 use crate::builders::Seen::{Done, Leg, Legs, Notices, Value};
 use crate::builders::{
     answers, begin, commit_into, committed, fork, read, refused_leg, refused_place, store_refuses,

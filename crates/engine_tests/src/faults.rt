@@ -1,5 +1,5 @@
-// Whole faults: the store's own is inside the engine's where the store refused, and there is none inside where another
-// layer did.
+//! Whole faults: the store's own is inside the engine's where the store refused, and there is none inside where another
+//! layer did.
 use crate::builders::Seen::{self, Done, Leg, Legs, Refused, Value};
 use crate::builders::{
     LAST_TIME, answers, begin, commit, commit_into, committed, fork, gone, hand, join, read,

@@ -1,4 +1,4 @@
-// A list of engine calls over a table in memory that a caller lends: what the memory holds afterwards is proved.
+//! A list of engine calls over a table in memory that a caller lends: what the memory holds afterwards is proved.
 ghost use Rattle.std.specs.Prelude.{◌≡◌, ◌+◌, ◌≤◌, true, false, ◌++◌, length, is_ok, vec_len, vec_capacity, MatchResult};
 ghost use Rattle.store.specs.Meaning.{new_store};
 ghost use Rattle.records.specs.Layouts.{record_depth};
@@ -15,9 +15,9 @@ use std::alloc::AllocError;
 use table_store::record::Record;
 use table_store::table::Table;
 
-// Makes a new table in this memory, lends it to a new engine for the calls, adds their answers to the list, and lets the table
-// go. Fit memory then holds the versions that the calls have left in the store, and nothing else; unfit memory is left alone. The
-// only error is want of memory for the answers: no call has been performed then, and fit memory holds a new store.
+/// Makes a new table in this memory, lends it to a new engine for the calls, adds their answers to the list, and lets the table
+/// go. Fit memory then holds the versions that the calls have left in the store, and nothing else; unfit memory is left alone. The
+/// only error is want of memory for the answers: no call has been performed then, and fit memory holds a new store.
 pub fn run_in(
     memory: &mut [Record],
     calls: &[Call],

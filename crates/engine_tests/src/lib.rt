@@ -1,7 +1,7 @@
-// Tests of the engine in Rust, of what a script does not show: which queries a call sends to the store, the store's own
-// fault inside the engine's, the caller's lists behind what a commit fills, memory, lists of calls, accounts in a book, and
-// two of the engine's parts: caches and lists of bounded length. What is printed of calls and answers is tested by the
-// scripts of `script_tests`. And a proved caller: a list of calls over a table in memory that is lent.
+//! Tests of the engine in Rust, of what a script does not show: which queries a call sends to the store, the store's own
+//! fault inside the engine's, the caller's lists behind what a commit fills, memory, lists of calls, accounts in a book, and
+//! two of the engine's parts: caches and lists of bounded length. What is printed of calls and answers is tested by the
+//! scripts of `script_tests`. And a proved caller: a list of calls over a table in memory that is lent.
 #![tactic(auto)]
 
 #[cfg(test)]

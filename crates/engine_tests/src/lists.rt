@@ -1,4 +1,4 @@
-// Lists of bounded length.
+//! Lists of bounded length.
 use crate::builders::put;
 use engine_parts::list::BoundedList;
 use snapshot::account::Write;

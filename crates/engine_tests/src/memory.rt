@@ -1,5 +1,5 @@
-// Memory: an engine's size, and the records of a table after an engine's prune, after runs that own or borrow the table, and of
-// memory that is no table's.
+//! Memory: an engine's size, and the records of a table after an engine's prune, after runs that own or borrow the table, and of
+//! memory that is no table's.
 use crate::builders::Seen::{Done, Leg, Notices, Refused, Value};
 use crate::builders::{
     answers, begin, commit, prune, put, read, seen_of, store_refuses, write, wrote,

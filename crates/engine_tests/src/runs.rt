@@ -1,5 +1,5 @@
-// Lists of calls run on new engines over both stores: their answers in order, behind what the list of answers already held,
-// and the engine that comes back.
+//! Lists of calls run on new engines over both stores: their answers in order, behind what the list of answers already held,
+//! and the engine that comes back.
 use crate::builders::Seen::{self, Done, Leg, Notices, Refused, Value};
 use crate::builders::{
     abandon, answers, begin, commit, committed, gone, hand, prune, read, refused_place, seen_of,

@@ -1,5 +1,5 @@
-// Which calls an engine makes of its store: for a read the version at the high end of the leg's interval, or none where a
-// worker's cache answers; for a commit the store's commit, or none without writes and where the chain refuses.
+//! Which calls an engine makes of its store: for a read the version at the high end of the leg's interval, or none where a
+//! worker's cache answers; for a commit the store's commit, or none without writes and where the chain refuses.
 use crate::builders::Seen::{self, Done, Leg, Legs, Refused, Value};
 use crate::builders::{
     LAST_TIME, abandon, answers, begin, commit, commit_into, committed, fork, hand, join, prune,

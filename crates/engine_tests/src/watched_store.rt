@@ -1,4 +1,4 @@
-// A newest store that notes which calls are made of it.
+//! A newest store that notes which calls are made of it.
 ghost use Rattle.std.proofs.Common.{lit≤};
 ghost use Rattle.newest_store.specs.Newest.{newest_meaning};
 

@@ -1,4 +1,4 @@
-// A store that keeps the newest version of each key and nothing else.
+//! A store that keeps the newest version of each key and nothing else.
 #![tactic(auto)]
 
 pub mod newest;

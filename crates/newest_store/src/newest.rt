@@ -1,4 +1,4 @@
-// A store of depth 1 and capacity 64: the newest version of each key in place, with no memory of the caller's.
+//! A store of depth 1 and capacity 64: the newest version of each key in place, with no memory of the caller's.
 ghost use Rattle.std.specs.Prelude.{◌≡◌, ℕ, true, length, nat_le};
 ghost use Rattle.std.proofs.Common.{lit≤};
 ghost use Rattle.snapshot.specs.Limits.{key_count};
@@ -13,16 +13,16 @@ use store::traits::{Reads, Store};
 use store::update::Update;
 use store::version::Version;
 
-// The last timestamp, and the newest version of each key.
+/// The last timestamp, and the newest version of each key.
 #[derive(Drop)]
 pub struct Newest {
     last: u64,
-    // `as`, since the length of an array calls no function
+    /// `as`, since the length of an array calls no function
     versions: [Version; KEYS as usize],
 }
 
 impl Newest {
-    // A new store: value 0 at time 0 for each key.
+    /// A new store: value 0 at time 0 for each key.
     pub fn new() -> Newest
         ensures { newest_meaning result ≡ new_store key_count }
     {

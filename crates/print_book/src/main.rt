@@ -1,4 +1,4 @@
-// Prints the listing of the book on standard input, of which the first 65,536 bytes count.
+//! Prints the listing of the book on standard input, of which the first 65,536 bytes count.
 #![tactic(auto)]
 
 use book::output::list_book;

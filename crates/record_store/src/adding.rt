@@ -1,4 +1,4 @@
-// Adding records after the last, and the records of a new store.
+//! Adding records after the last, and the records of a new store.
 ghost use Rattle.std.specs.Prelude.{◌≡◌, ◌+◌, ◌≤◌, ◌<◌, [], ◌∷◌, ◌++◌, true, length, map, take};
 ghost use Rattle.snapshot.specs.Limits.{key_count, most_records};
 ghost use Rattle.store.specs.Meaning.{new_store};

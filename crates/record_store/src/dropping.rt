@@ -1,4 +1,4 @@
-// What a commit or a prune drops, by numbers for each key, and the moving of what stays.
+//! What a commit or a prune drops, by numbers for each key, and the moving of what stays.
 ghost use Rattle.std.specs.Prelude.{◌≡◌, ℕ, ◌-◌, ◌≤◌, ◌<◌, true, length, take, slice_index_or};
 ghost use Rattle.snapshot.specs.Limits.{most_records};
 ghost use Rattle.store.specs.Meaning.{written_to};

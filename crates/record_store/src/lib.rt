@@ -1,5 +1,5 @@
-// A store of records over any memory that holds them: up to 16 versions of a key, oldest first. Its rules, its laws and its
-// proofs are written once, for every such memory; a slice of records is one.
+//! A store of records over any memory that holds them: up to 16 versions of a key, oldest first. Its rules, its laws and its
+//! proofs are written once, for every such memory; a slice of records is one.
 #![tactic(auto)]
 
 mod adding;

@@ -1,4 +1,4 @@
-// Looking for a version in records by order of time.
+//! Looking for a version in records by order of time.
 ghost use Rattle.std.specs.Prelude.{◌≡◌, ℕ, ◌-◌, ◌≤◌, ◌<◌, true, None, filter, length, take, drop, slice_index_or};
 ghost use Rattle.std.specs.List.{last_or};
 ghost use Rattle.store.specs.Meaning.{end_before, newest_at};

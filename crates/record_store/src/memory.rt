@@ -1,4 +1,4 @@
-// Memory that holds a list of records, whatever it is made of.
+//! Memory that holds a list of records, whatever it is made of.
 ghost use Rattle.std.specs.Prelude.{◌≡◌, ℕ, ◌+◌, ◌-◌, ◌≤◌, ◌<◌, Bool, true, List, length, take, drop, replicate, slice_set, slice_index_or};
 ghost use Rattle.std.specs.List.{copy_within};
 ghost use Rattle.snapshot.specs.Limits.{key_count, most_records};
@@ -7,7 +7,7 @@ ghost use Rattle.records.specs.declared.record.Record.{Record as ARecord};
 
 use records::record::Record;
 
-// Places for records, from 0.
+/// Places for records, from 0.
 pub trait RecordMemory {
     // what stands at its places
     ghost records: { Self → List ARecord };
@@ -31,27 +31,27 @@ pub trait RecordMemory {
     // these records lie in it from its start, and nothing else does
     ghost Lies: { List ARecord → Held → Type 0 };
 
-    // How many places there are.
+    /// How many places there are.
     fn len(&self) -> usize
         ensures { result ≡ length (records self.now) };
 
-    // Is it fit for a store?
+    /// Is it fit for a store?
     fn is_fit(&self) -> bool
         ensures { result ≡ fit self.now };
 
-    // The record at a place.
+    /// The record at a place.
     fn at(&self, place: usize) -> Record
         requires { place < length (records self.now) }
         ensures { result ≡ slice_index_or (records self.now) place no_record };
 
-    // Writes a record to a place.
+    /// Writes a record to a place.
     fn put(&mut self, place: usize, new: Record)
         requires { place < length (records self.old) }
         ensures value { records self.new ≡ slice_set (records self.old) place new }
         ensures tidy { tidy self.old place ≡ true → tidy self.new (place + 1) ≡ true }
         ensures same { (name self.new ≡ name self.old) × (fit self.new ≡ fit self.old) };
 
-    // Moves the records from `start` up to `end` to the places from `to` on, lower ones.
+    /// Moves the records from `start` up to `end` to the places from `to` on, lower ones.
     fn move_down(&mut self, start: usize, end: usize, to: usize)
         requires down { to ≤ start }
         requires rising { start ≤ end }
@@ -60,7 +60,7 @@ pub trait RecordMemory {
         ensures tidy { (n : ℕ) → end ≤ n → tidy self.old n ≡ true → tidy self.new n ≡ true }
         ensures same { (name self.new ≡ name self.old) × (fit self.new ≡ fit self.old) };
 
-    // Leaves nothing at the places from `start` up to `end`.
+    /// Leaves nothing at the places from `start` up to `end`.
     fn clear(&mut self, start: usize, end: usize)
         requires rising { start ≤ end }
         requires within { end ≤ length (records self.old) }
@@ -71,7 +71,7 @@ pub trait RecordMemory {
         ensures tidy { tidy self.old end ≡ true → tidy self.new start ≡ true }
         ensures same { (name self.new ≡ name self.old) × (fit self.new ≡ fit self.old) };
 
-    // Leaves nothing anywhere.
+    /// Leaves nothing anywhere.
     fn erase(&mut self)
         ensures value { records self.new ≡ replicate (length (records self.old)) no_record }
         ensures tidy { tidy self.new 0 ≡ true }

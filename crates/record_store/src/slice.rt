@@ -1,4 +1,4 @@
-// A slice of records that a caller lends, as memory: 64 to 1,024 records are fit for a store.
+//! A slice of records that a caller lends, as memory: 64 to 1,024 records are fit for a store.
 ghost use Rattle.std.specs.Prelude.{◌≡◌, ◌-◌, ◌≤◌, length};
 ghost use Rattle.std.specs.List.{copy_within};
 ghost use Rattle.records.specs.Slices.{LiesIn, is_table_size, zeros_after};

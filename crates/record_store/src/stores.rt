@@ -1,4 +1,4 @@
-// The store of records: a list of records in any memory, with how many there are of each key, and the last timestamp.
+//! The store of records: a list of records in any memory, with how many there are of each key, and the last timestamp.
 ghost use Rattle.std.specs.Prelude.{◌≡◌, ◌+◌, ◌-◌, ◌<◌, ◌≤◌, true, length, take, Ok, IfOk};
 ghost use Rattle.std.specs.Result.{result_and};
 ghost use Rattle.std.proofs.Common.{lit≤};
@@ -20,8 +20,8 @@ use store::checks::{check_commit, check_query};
 use store::traits::{Reads, Store};
 use store::update::Update;
 
-// In fit memory the first `kept` records are those of the store, sound and in order, with nothing after them. Other memory is
-// left alone, and none is kept in it.
+/// In fit memory the first `kept` records are those of the store, sound and in order, with nothing after them. Other memory is
+/// left alone, and none is kept in it.
 #[derive(Drop)]
 pub struct RecordStore<M: RecordMemory> {
     pub(crate) memory: M,
@@ -35,7 +35,7 @@ pub struct RecordStore<M: RecordMemory> {
 }
 
 impl<M: RecordMemory> RecordStore<M> {
-    // A new store in this memory. Unfit memory is left alone, and the store in it takes no commit.
+    /// A new store in this memory. Unfit memory is left alone, and the store in it takes no commit.
     pub fn new(memory: M) -> RecordStore<M>
         ensures meaning { memory_meaning M.fit M.records result.memory result.kept result.last ≡ new_store (capacity_for (M.fit memory) (length (M.records memory))) }
         ensures loan { loan_of M.name M.records M.fit M.held result.memory ≡ loan_of M.name M.records M.fit M.held memory }

@@ -1,4 +1,4 @@
-// A table: the store of records over a slice that a caller lends. It is fit for a table with 64 to 1,024 records.
+//! A table: the store of records over a slice that a caller lends. It is fit for a table with 64 to 1,024 records.
 ghost use Rattle.std.specs.Prelude.{◌≡◌, true, length};
 ghost use Rattle.records.specs.Slices.{is_table_size};
 ghost use Rattle.record_store.specs.Tables.{HoldsOnly, memory_check, table_meaning};
@@ -11,7 +11,7 @@ use snapshot::fault::{Fault, Layer, Refusal};
 pub type Table<'a> = RecordStore<&'a mut [Record]>;
 
 impl<'a> RecordStore<&'a mut [Record]> {
-    // Refuses memory of fewer than 64 or more than 1,024 records (17).
+    /// Refuses memory of fewer than 64 or more than 1,024 records (17).
     pub fn check(memory: &[Record]) -> Result<(), Fault>
         ensures { result ≡ memory_check (length memory.now) }
     {
@@ -22,7 +22,7 @@ impl<'a> RecordStore<&'a mut [Record]> {
         }
     }
 
-    // The memory as it is now: the kept versions from its start, by timestamp, then key, and zeros after them.
+    /// The memory as it is now: the kept versions from its start, by timestamp, then key, and zeros after them.
     pub fn records(&self) -> &[Record]
         ensures value { result.now ≡ self.now.memory.now }
         ensures laid { is_table_size (length self.now.memory.now) ≡ true → HoldsOnly (table_meaning self.now.memory.now self.now.kept self.now.last) result.now }

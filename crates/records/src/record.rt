@@ -1,6 +1,6 @@
-// A record of one version.
+//! A record of one version.
 
-// One version of one key: in this order of its fields a record takes 16 bytes.
+/// One version of one key: in this order of its fields a record takes 16 bytes.
 #[derive(Clone, Copy, PartialEq, Eq, Debug)]
 #[repr(C)]
 pub struct Record {
@@ -9,7 +9,7 @@ pub struct Record {
     pub key: u8,
 }
 
-// What stands where there is no record.
+/// What stands where there is no record.
 pub const NO_RECORD: Record = Record {
     timestamp: 0,
     value: 0,

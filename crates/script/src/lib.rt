@@ -1,4 +1,4 @@
-// Scripts of engine calls: what a line says, how a call and its answer are shown, and the playing of a script.
+//! Scripts of engine calls: what a line says, how a call and its answer are shown, and the playing of a script.
 #![tactic(auto)]
 
 pub mod error;

@@ -1,23 +1,23 @@
-// What a line of a script says.
+//! What a line of a script says.
 
 use engine_model::calls::Call;
 
-// The kind of store that a script asks for; a table has so many records, 0 to 1,024.
+/// The kind of store that a script asks for; a table has so many records, 0 to 1,024.
 #[derive(Clone, Copy)]
 pub enum StoreKind {
     Newest,
     Table { records: usize },
 }
 
-// A call as a script names it. Only a commit names rooms, and need not: without them its lists have room for all that a
-// chain may hold.
+/// A call as a script names it. Only a commit names rooms, and need not: without them its lists have room for all that a
+/// chain may hold.
 #[derive(Clone, Copy)]
 pub struct Request {
     pub call: Call,
     pub names_rooms: bool,
 }
 
-// A line is blank if it has no word or is a comment.
+/// A line is blank if it has no word or is a comment.
 #[derive(Clone, Copy)]
 pub enum Line {
     Blank,

@@ -1,4 +1,4 @@
-// What a line of a script says, from its bytes.
+//! What a line of a script says, from its bytes.
 ghost use Rattle.std.specs.Prelude.{◌≡◌, ◌≤◌, length, map};
 ghost use Rattle.script.specs.Lines.{items_of, line_of, numbers_of, store_or_call, store_of};
 
@@ -9,8 +9,8 @@ use crate::words::{MOST_WORDS, without_end, words_in};
 use arrayvec::ArrayVec;
 use snapshot::limits::MOST_RECORDS;
 
-// What the line says; it may end with a newline or lack it. Any bytes are taken: a line is bad if it is neither blank,
-// nor a store's, nor a call.
+/// What the line says; it may end with a newline or lack it. Any bytes are taken: a line is bad if it is neither blank,
+/// nor a store's, nor a call.
 pub fn parse(line: &[u8]) -> Line
     ensures { result ≡ line_of line.now }
 {

@@ -1,4 +1,4 @@
-// The playing of a script: each call on one engine over one store, and what it came to.
+//! The playing of a script: each call on one engine over one store, and what it came to.
 ghost use Rattle.std.specs.Prelude.{◌≡◌, ◌+◌, ◌^◌, ◌<◌, ◌∷◌, None, Some, IfOk, IfSome, OnOk, IfErr, if◌then◌else◌, ◌==◌, length, min};
 ghost use Rattle.std.specs.Io.BufRead.{drop_through, take_through};
 ghost use Rattle.engine.specs.Engines.{engine_of};
@@ -28,11 +28,11 @@ use store::traits::Store;
 use table_store::record::{NO_RECORD, Record};
 use table_store::table::Table;
 
-// Plays the script that the input has, to its end, and writes each call with what it came to, and each bad line's
-// number. Fails where the input cannot be read, the output cannot be written, there is no memory for a line, or the
-// script has 2^64 - 1 lines or more. The contract speaks of input and output whose bytes are known, as in memory: what
-// was printed is all that the script prints, and after an error a front of it. And what a script prints shows a trace
-// that keeps the law of traces.
+/// Plays the script that the input has, to its end, and writes each call with what it came to, and each bad line's
+/// number. Fails where the input cannot be read, the output cannot be written, there is no memory for a line, or the
+/// script has 2^64 - 1 lines or more. The contract speaks of input and output whose bytes are known, as in memory: what
+/// was printed is all that the script prints, and after an error a front of it. And what a script prints shows a trace
+/// that keeps the law of traces.
 #[tactic(auto, using(crate::proofs::TraceProofs::prints_trace))]
 pub fn play<R: BufRead, W: Write>(
     heap: Global,

@@ -1,4 +1,4 @@
-// The calls, each from the numbers behind its word.
+//! The calls, each from the numbers behind its word.
 ghost use Rattle.std.specs.Prelude.{◌≡◌, nat_lt, nat_le};
 ghost use Rattle.script.specs.Lines.{call_of, request_of};
 ghost use Rattle.script.specs.Requests as spec;

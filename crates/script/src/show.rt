@@ -1,4 +1,4 @@
-// How calls, answers and refusals are shown.
+//! How calls, answers and refusals are shown.
 ghost use Rattle.std.specs.Prelude.{◌≡◌, true, false, Some, MatchResult};
 ghost use Rattle.std.specs.List.{flat_map};
 ghost use Rattle.snapshot.specs.Accounts.{lawful};
@@ -79,7 +79,7 @@ impl fmt::Display for Request {
     }
 }
 
-// What a call came to: its answer or its refusal.
+/// What a call came to: its answer or its refusal.
 #[derive(Drop)]
 pub struct Outcome(pub Result<Answer, Fault>);
 
@@ -112,7 +112,7 @@ fn account_of(committed: &CommittedAccount) -> Account<'_>
     }
 }
 
-// A refusal: its number, the layer that refused, and the place, leg and key that the call named.
+/// A refusal: its number, the layer that refused, and the place, leg and key that the call named.
 #[derive(Clone, Copy)]
 pub struct FaultShown(pub Fault);
 
@@ -155,7 +155,7 @@ impl fmt::Display for LayerShown {
 // The bytes of the longest account: 29 for its head and its last byte, and the most readings and writes.
 const LONGEST_ACCOUNT: usize = 29 + 22 * CHAIN_READINGS + 5 * WRITE_KEYS;
 
-// An account: a line with its five numbers, one for each reading and each write, and one with its bytes in the book.
+/// An account: a line with its five numbers, one for each reading and each write, and one with its bytes in the book.
 #[derive(Clone, Copy)]
 pub struct AccountShown<'a>(pub Account<'a>);
 

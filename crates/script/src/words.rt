@@ -1,4 +1,4 @@
-// The words of a line.
+//! The words of a line.
 ghost use Rattle.std.specs.Prelude.{◌≡◌, map, take};
 ghost use Rattle.script.specs.Words.{is_space, words_of, without_end};
 

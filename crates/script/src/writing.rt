@@ -1,4 +1,4 @@
-// A line of the output: it is made whole in memory first, and then written.
+//! A line of the output: it is made whole in memory first, and then written.
 ghost use Rattle.std.specs.Prelude.{IfSome};
 ghost use Rattle.script.specs.Played.{bad_line, result_line};
 ghost use Rattle.script.specs.Failures.{Writes};

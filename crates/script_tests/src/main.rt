@@ -1,6 +1,6 @@
-// Plays the scripts of data/, each behind a line with its name; what they must print was computed by other
-// implementations of the rules, never by this program. The tests of lines, of what is shown and of the playing stand in
-// `tests`.
+//! Plays the scripts of data/, each behind a line with its name; what they must print was computed by other
+//! implementations of the rules, never by this program. The tests of lines, of what is shown and of the playing stand in
+//! `tests`.
 #![tactic(auto)]
 
 mod scripts;

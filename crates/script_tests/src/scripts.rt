@@ -1,5 +1,5 @@
-// The scripts of data/ in the order in which they are played: first those whose answers two other implementations of the
-// rules computed, then those that each show one rule or a few.
+//! The scripts of data/ in the order in which they are played: first those whose answers two other implementations of the
+//! rules computed, then those that each show one rule or a few.
 
 pub(crate) const SCRIPTS: [&str; 101] = [
     "room-01.script",

@@ -1,5 +1,5 @@
-// Tests of a script's lines, of what is shown, and of the playing, from bytes to bytes. What is expected was worked out
-// from the rules.
+//! Tests of a script's lines, of what is shown, and of the playing, from bytes to bytes. What is expected was worked out
+//! from the rules.
 use book::account::Account;
 use script::error::PlayError;
 use script::line::{Line, StoreKind};

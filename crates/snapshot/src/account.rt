@@ -1,11 +1,11 @@
-// What is read, written and accounted for: a reading of one version, a chain's reading, a write, and the head of an account.
+//! What is read, written and accounted for: a reading of one version, a chain's reading, a write, and the head of an account.
 ghost use Rattle.std.specs.Prelude.{Some};
 ghost use Rattle.snapshot.specs.Shown.{head_text};
 
 use crate::interval::Interval;
 use std::fmt;
 
-// A version's value, its timestamp, and its promise: the last time at which that version is known to be current.
+/// A version's value, its timestamp, and its promise: the last time at which that version is known to be current.
 #[derive(Clone, Copy, Default, PartialEq, Eq, Debug)]
 pub struct Reading {
     pub value: u32,
@@ -13,7 +13,7 @@ pub struct Reading {
     pub promise: u64,
 }
 
-// A reading that a chain made: on which worker, of which key.
+/// A reading that a chain made: on which worker, of which key.
 #[derive(Clone, Copy, Default, PartialEq, Eq, Debug)]
 pub struct ChainReading {
     pub worker: u8,
@@ -21,15 +21,15 @@ pub struct ChainReading {
     pub reading: Reading,
 }
 
-// A key and the value that it is to have.
+/// A key and the value that it is to have.
 #[derive(Clone, Copy, Default, PartialEq, Eq, Debug)]
 pub struct Write {
     pub key: u8,
     pub value: u32,
 }
 
-// The five numbers of a committed chain's account: its final interval, its timestamp (0 if nothing was written), and how
-// many readings and writes its two lists have. The lists are a caller's.
+/// The five numbers of a committed chain's account: its final interval, its timestamp (0 if nothing was written), and how
+/// many readings and writes its two lists have. The lists are a caller's.
 #[derive(Clone, Copy, PartialEq, Eq, Debug)]
 pub struct AccountHead {
     pub interval: Interval,
@@ -53,7 +53,7 @@ impl fmt::Display for AccountHead {
     }
 }
 
-// What stands in a list of readings or writes where none is known.
+/// What stands in a list of readings or writes where none is known.
 pub const NO_READING: ChainReading = ChainReading {
     worker: 0,
     key: 0,

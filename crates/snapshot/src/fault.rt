@@ -1,8 +1,8 @@
-// Why a call is refused: the refusal with its number, and the fault that says where it arose.
+//! Why a call is refused: the refusal with its number, and the fault that says where it arose.
 ghost use Rattle.std.specs.Prelude.{◌≡◌};
 ghost use Rattle.snapshot.specs.Refusals.{Numbered, refusal_number, unnamed, at_key, book_fault, own_fault, around_store};
 
-// The reasons for which a call is refused, in the order of their numbers.
+/// The reasons for which a call is refused, in the order of their numbers.
 #[derive(Clone, Copy, PartialEq, Eq, Debug)]
 pub enum Refusal {
     OutOfRange = 1,
@@ -29,7 +29,7 @@ pub enum Refusal {
 }
 
 impl Refusal {
-    // The refusal's number, 1 to 21.
+    /// The refusal's number, 1 to 21.
     pub fn number(self) -> u8
         ensures value { result ≡ refusal_number self }
         ensures own { Numbered self result }
@@ -38,7 +38,7 @@ impl Refusal {
     }
 }
 
-// The layer that refused first.
+/// The layer that refused first.
 #[derive(Clone, Copy, PartialEq, Eq, Debug)]
 pub enum Layer {
     Chain,
@@ -47,11 +47,11 @@ pub enum Layer {
     Book,
 }
 
-// What stands in a fault for a place, leg or key that the call lacks or has several of. A number and no `Option`, by the
-// rules: a call may also name 255.
+/// What stands in a fault for a place, leg or key that the call lacks or has several of. A number and no `Option`, by the
+/// rules: a call may also name 255.
 pub const NOT_NAMED: u8 = 255;
 
-// A refusal, the layer that refused first, and the place, leg and key as the call named them.
+/// A refusal, the layer that refused first, and the place, leg and key as the call named them.
 #[derive(Clone, Copy, PartialEq, Eq, Debug)]
 pub struct Fault {
     pub refusal: Refusal,
@@ -62,14 +62,14 @@ pub struct Fault {
 }
 
 impl Fault {
-    // The fault of a call that names no place, leg or key.
+    /// The fault of a call that names no place, leg or key.
     pub fn unnamed(refusal: Refusal, layer: Layer) -> Fault
         ensures { result ≡ unnamed refusal layer }
     {
         Fault::at_key(refusal, layer, NOT_NAMED)
     }
 
-    // The fault of a call that names a key and nothing else.
+    /// The fault of a call that names a key and nothing else.
     pub fn at_key(refusal: Refusal, layer: Layer, key: u8) -> Fault
         ensures { result ≡ at_key refusal layer key }
     {
@@ -83,7 +83,7 @@ impl Fault {
     }
 }
 
-// A fault of the book, with the byte place at which the account starts.
+/// A fault of the book, with the byte place at which the account starts.
 #[derive(Clone, Copy, PartialEq, Eq, Debug)]
 pub struct BookFault {
     pub fault: Fault,
@@ -101,7 +101,7 @@ impl BookFault {
     }
 }
 
-// A fault of an engine's call. Where the store refused, its own fault is whole inside.
+/// A fault of an engine's call. Where the store refused, its own fault is whole inside.
 #[derive(Clone, Copy, PartialEq, Eq, Debug)]
 pub struct EngineFault {
     pub fault: Fault,
@@ -109,7 +109,7 @@ pub struct EngineFault {
 }
 
 impl EngineFault {
-    // A fault that no store has a part in. Not a `From`, by which `?` could take a store's fault for such a one.
+    /// A fault that no store has a part in. Not a `From`, by which `?` could take a store's fault for such a one.
     pub fn own(fault: Fault) -> EngineFault
         ensures { result ≡ own_fault fault }
     {
@@ -119,7 +119,7 @@ impl EngineFault {
         }
     }
 
-    // A store's fault inside the call that named this place, leg and key: refusal and layer are the store's.
+    /// A store's fault inside the call that named this place, leg and key: refusal and layer are the store's.
     pub fn around(inner: Fault, place: u8, leg: u8, key: u8) -> EngineFault
         ensures { result ≡ around_store inner place leg key }
     {

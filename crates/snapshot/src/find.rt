@@ -1,10 +1,10 @@
-// Finding a record by its key, once for every kind of record and of key.
+//! Finding a record by its key, once for every kind of record and of key.
 ghost use Rattle.std.specs.Prelude.{◌≡◌, Bool, ◌==◌};
 ghost use Rattle.snapshot.specs.Finding.{first_with, FirstMeans};
 
 use crate::account::{ChainReading, Write};
 
-// A record that can have a key.
+/// A record that can have a key.
 pub trait Keyed<K> {
     ghost named: { Self → K → Bool };
 
@@ -12,7 +12,7 @@ pub trait Keyed<K> {
         ensures { result ≡ named self.now key };
 }
 
-// The place of the first record with this key, if there is one.
+/// The place of the first record with this key, if there is one.
 pub fn find<K: Copy, T: Keyed<K>>(records: &[T], key: K) -> Option<usize>
     ensures value { result ≡ first_with (λ x. T.named x key) records.now }
     ensures means { FirstMeans (λ x. T.named x key) records.now result }

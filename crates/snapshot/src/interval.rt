@@ -1,4 +1,4 @@
-// An interval of times, both ends included: the stretch in which all readings of a chain's leg are known to agree.
+//! An interval of times, both ends included: the stretch in which all readings of a chain's leg are known to agree.
 ghost use Rattle.std.specs.Prelude.{◌≡◌, min, max};
 ghost use Rattle.snapshot.specs.Intervals.{from_to, meets_reading, narrowed, joined_or_refused, MeetsMeans, NarrowedMeans, JoinedMeans};
 
@@ -13,13 +13,13 @@ pub struct Interval {
 }
 
 impl Interval {
-    // From 0 to the open end.
+    /// From 0 to the open end.
     pub const ALL_TIMES: Interval = Interval {
         low: 0,
         high: OPEN_END,
     };
 
-    // Was the reading's version current, as far as is known, at some time of the interval?
+    /// Was the reading's version current, as far as is known, at some time of the interval?
     pub fn meets(self, reading: Reading) -> bool
         ensures value { result ≡ meets_reading self reading }
         ensures means { MeetsMeans self reading result }
@@ -27,7 +27,7 @@ impl Interval {
         reading.promise >= self.low && reading.timestamp <= self.high
     }
 
-    // The times of the interval at which the reading's version is known to be current.
+    /// The times of the interval at which the reading's version is known to be current.
     pub fn narrow(self, reading: Reading) -> Interval
         ensures value { result ≡ narrowed self reading }
         ensures means { NarrowedMeans self reading result }
@@ -38,7 +38,7 @@ impl Interval {
         })
     }
 
-    // The times of both intervals; refused where they have none in common.
+    /// The times of both intervals; refused where they have none in common.
     pub fn join(self, other: Interval) -> Result<Interval, Refusal>
         ensures value { result ≡ joined_or_refused self other }
         ensures means { JoinedMeans self other result }

@@ -1,4 +1,4 @@
-// The vocabulary of the engine: limits, readings, intervals, refusals and faults, and finding a record by its key.
+//! The vocabulary of the engine: limits, readings, intervals, refusals and faults, and finding a record by its key.
 #![tactic(auto)]
 
 pub mod account;

@@ -1,4 +1,4 @@
-// A store's calls and their answers as values, and a list of calls run on any store.
+//! A store's calls and their answers as values, and a list of calls run on any store.
 ghost use Rattle.std.specs.Prelude.{◌≡◌, ◌+◌, ◌≤◌, true, ◌++◌, length, is_ok, vec_len, vec_capacity, MatchResult, OnOk};
 ghost use Rattle.store.specs.Calls.{answer_of, after_store_call, store_answers, after_store_calls};
 ghost use Rattle.store.specs.Laws.{KeepsLaws};
@@ -8,7 +8,7 @@ use snapshot::account::{Reading, Write};
 use snapshot::fault::Fault;
 use std::alloc::AllocError;
 
-// One call of a store: a value and no closure, so that the laws can speak of any list of calls.
+/// One call of a store: a value and no closure, so that the laws can speak of any list of calls.
 #[derive(Clone, Copy)]
 pub enum StoreCall<'a> {
     Last,
@@ -17,7 +17,7 @@ pub enum StoreCall<'a> {
     Prune { horizon: u64 },
 }
 
-// What the call of the same name answered.
+/// What the call of the same name answered.
 #[derive(Clone, Copy, PartialEq, Eq, Debug)]
 pub enum StoreAnswer {
     Last(u64),
@@ -26,7 +26,7 @@ pub enum StoreAnswer {
     Prune,
 }
 
-// Performs one call.
+/// Performs one call.
 pub fn perform<S: Store>(store: &mut S, call: StoreCall) -> StoreAnswer
     ensures answer { result ≡ answer_of S.Store.DEPTH call.entry (S.Reads.meaning store.old) }
     ensures after { S.Reads.meaning store.new ≡ after_store_call S.Store.DEPTH call.entry (S.Reads.meaning store.old) }
@@ -43,8 +43,8 @@ pub fn perform<S: Store>(store: &mut S, call: StoreCall) -> StoreAnswer
     }
 }
 
-// Performs the calls in order, and adds their answers to the list. The only error is want of memory for the answers, and
-// then no call has been performed. Where the store was new, it keeps the laws of stores.
+/// Performs the calls in order, and adds their answers to the list. The only error is want of memory for the answers, and
+/// then no call has been performed. Where the store was new, it keeps the laws of stores.
 pub fn run<S: Store>(
     store: &mut S,
     calls: &[StoreCall],

@@ -1,5 +1,5 @@
-// What every store checks before it looks at its versions: the key and time of a question, the writes and clock reading
-// of a commit.
+//! What every store checks before it looks at its versions: the key and time of a question, the writes and clock reading
+//! of a commit.
 ghost use Rattle.std.specs.Prelude.{◌≡◌, ◌+◌, ◌<◌, ◌≤◌, max, true, Err, IfOk, is_ok};
 ghost use Rattle.snapshot.specs.Limits.{open_end};
 ghost use Rattle.snapshot.specs.declared.fault.Refusal.TheVariants.{ClockTooHigh, NoTimeLeft};
@@ -12,7 +12,7 @@ use snapshot::fault::{Fault, Layer, Refusal};
 use snapshot::limits::{OPEN_END, WRITE_KEYS, is_key, is_time};
 use snapshot::writes::are_rising;
 
-// Refused where there is no such key or time.
+/// Refused where there is no such key or time.
 pub fn check_query(key: u8, time: u64) -> Result<(), Fault>
     ensures { result ≡ in_range key time }
 {
@@ -23,15 +23,15 @@ pub fn check_query(key: u8, time: u64) -> Result<(), Fault>
     }
 }
 
-// Does a commit take these writes: one to eight, their keys in range and strictly rising?
+/// Does a commit take these writes: one to eight, their keys in range and strictly rising?
 pub fn are_fit(writes: &[Write]) -> bool
     ensures { result ≡ fit_writes writes.now }
 {
     1 <= writes.len() && writes.len() <= WRITE_KEYS && are_rising(writes)
 }
 
-// The timestamp of a commit: the clock reading, or one more than the last timestamp if that is larger. Refused (12) for a
-// clock reading of 2^48 or more, else (13) where the last timestamp is 2^48 - 1 or more.
+/// The timestamp of a commit: the clock reading, or one more than the last timestamp if that is larger. Refused (12) for a
+/// clock reading of 2^48 or more, else (13) where the last timestamp is 2^48 - 1 or more.
 pub fn issue(clock: u64, last: u64) -> Result<u64, Fault>
     ensures value { result ≡ issued clock last }
     ensures timestamp { IfOk result (λ t. t ≡ max clock (last + 1)) }
@@ -48,7 +48,7 @@ pub fn issue(clock: u64, last: u64) -> Result<u64, Fault>
     Ok(clock.max(last + 1))
 }
 
-// The writes with the timestamp that they get, refused where the writes are unfit or no timestamp can be issued.
+/// The writes with the timestamp that they get, refused where the writes are unfit or no timestamp can be issued.
 pub fn check_commit<'a>(clock: u64, writes: &'a [Write], last: u64) -> Result<Update<'a>, Fault>
     ensures { Checked clock writes.now last result }
 {

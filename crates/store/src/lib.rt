@@ -1,4 +1,4 @@
-// What a store means, the two traits of a store, its calls as values, and what every store's commit checks first.
+//! What a store means, the two traits of a store, its calls as values, and what every store's commit checks first.
 #![tactic(auto)]
 
 pub mod calls;

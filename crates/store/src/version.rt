@@ -1,4 +1,4 @@
-// A version of a key: the value that a commit gave it, and that commit's timestamp.
+//! A version of a key: the value that a commit gave it, and that commit's timestamp.
 #[derive(Clone, Copy, PartialEq, Eq, Debug)]
 pub struct Version {
     pub timestamp: u64,

@@ -1,5 +1,5 @@
-// Pseudo-random calls of a store, the same ones for the same seed: mostly near the store's last timestamp and on a few
-// keys, now and then far off or unfit.
+//! Pseudo-random calls of a store, the same ones for the same seed: mostly near the store's last timestamp and on a few
+//! keys, now and then far off or unfit.
 ghost use Rattle.std.specs.Prelude.{◌<◌};
 
 use snapshot::account::Write;

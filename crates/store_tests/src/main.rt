@@ -1,6 +1,6 @@
-// Runs pseudo-random calls on tables of four sizes and on the newest store. It prints a line for each answer, and after
-// every hundred calls on a table a number drawn from all its records. The lines in `stdout` were computed by another
-// implementation of the rules. The tests of both stores stand in `tests`.
+//! Runs pseudo-random calls on tables of four sizes and on the newest store. It prints a line for each answer, and after
+//! every hundred calls on a table a number drawn from all its records. The lines in `stdout` were computed by another
+//! implementation of the rules. The tests of both stores stand in `tests`.
 #![tactic(auto)]
 
 mod chance;

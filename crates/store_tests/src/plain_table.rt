@@ -1,5 +1,5 @@
-// Tables against a plain list of records: after each of many calls the answer and the whole memory are compared with what the
-// rules make of the list, and after each prune every version that the table can be asked for.
+//! Tables against a plain list of records: after each of many calls the answer and the whole memory are compared with what the
+//! rules make of the list, and after each prune every version that the table can be asked for.
 use crate::chance::Chance;
 use snapshot::account::{NO_WRITE, Reading, Write};
 use snapshot::fault::{Fault, Layer, Refusal};

@@ -1,5 +1,5 @@
-// Tests of both stores: their answers to lists of calls, every refusal with its number and what its fault names, the order
-// of checks, depth, capacity and prunes, and a table's memory record by record.
+//! Tests of both stores: their answers to lists of calls, every refusal with its number and what its fault names, the order
+//! of checks, depth, capacity and prunes, and a table's memory record by record.
 use newest_store::newest::Newest;
 use snapshot::account::Write;
 use snapshot::fault::{Fault, Layer};

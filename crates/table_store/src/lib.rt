@@ -1,4 +1,4 @@
-// The table store: the store of records over a slice that a caller lends, and lists of calls on one.
+//! The table store: the store of records over a slice that a caller lends, and lists of calls on one.
 #![tactic(auto)]
 
 pub mod record;

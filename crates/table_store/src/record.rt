@@ -1,3 +1,3 @@
-// The records of a table.
+//! The records of a table.
 
 pub use records::record::{NO_RECORD, Record};

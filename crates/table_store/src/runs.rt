@@ -1,4 +1,4 @@
-// A list of calls on a table of their own, and what they leave in the memory that it was lent.
+//! A list of calls on a table of their own, and what they leave in the memory that it was lent.
 ghost use Rattle.std.specs.Prelude.{◌≡◌, ◌+◌, ◌≤◌, true, false, ◌++◌, length, is_ok, vec_len, vec_capacity, MatchResult};
 ghost use Rattle.store.specs.Calls.{after_store_calls, store_answers};
 ghost use Rattle.store.specs.Meaning.{new_store};
@@ -11,9 +11,9 @@ use crate::table::Table;
 use std::alloc::AllocError;
 use store::calls::{StoreAnswer, StoreCall, run};
 
-// Makes a new table in this memory, performs the calls on it in order, adds their answers to the list, and lets the table go. Fit
-// memory then holds the versions that are kept, and nothing else; unfit memory is left alone. The only error is want of memory
-// for the answers: no call has been performed then, and fit memory holds a new store.
+/// Makes a new table in this memory, performs the calls on it in order, adds their answers to the list, and lets the table go. Fit
+/// memory then holds the versions that are kept, and nothing else; unfit memory is left alone. The only error is want of memory
+/// for the answers: no call has been performed then, and fit memory holds a new store.
 pub fn run_in(
     memory: &mut [Record],
     calls: &[StoreCall],

@@ -1,3 +1,3 @@
-// The table.
+//! The table.
 
 pub use record_store::table::Table;
