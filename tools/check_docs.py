@@ -18,7 +18,7 @@ import os
 import re
 import sys
 
-LEFT_OUT = {"docs/PORT.md", "docs/DESIGN-PASS.md"}
+LEFT_OUT = {"docs/history/PORT.md", "docs/history/DESIGN-PASS.md"}
 
 # Words of Rust, of Rattle, of its standard library and of its kit.
 KIT = set(
@@ -70,7 +70,7 @@ class Repository:
         for path in glob.glob("crates/*/must-fail/*.edit") + glob.glob("crates/*/data/*"):
             self.names.add(os.path.splitext(os.path.basename(path))[0])
         self.names |= set(re.findall(r"^([a-z][a-z0-9_]*):", read("crates.txt"), flags=re.M))
-        self.roots = ["", "crates/", "docs/", "tools/"]
+        self.roots = ["", "crates/", "docs/", "docs/history/", "tools/"]
         self.roots += glob.glob("crates/*/") + glob.glob("crates/*/src/")
         self.roots += glob.glob("crates/*/specs/") + glob.glob("crates/*/proofs/") + glob.glob("crates/*/must-fail/")
 
@@ -114,7 +114,7 @@ def cited(path):
 def main():
     repository = Repository()
     missing = 0
-    for path in ["README.md"] + sorted(glob.glob("docs/*.md")):
+    for path in ["README.md"] + sorted(glob.glob("docs/**/*.md", recursive=True)):
         if path in LEFT_OUT:
             continue
         for number, word in cited(path):

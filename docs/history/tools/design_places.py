@@ -1,9 +1,9 @@
 #!/usr/bin/env python3
-"""Lists, for each point of docs/DESIGN-PASS.md, the lines of src/ at which that point may apply.
+"""Lists, for each point of docs/history/DESIGN-PASS.md, the lines of src/ at which that point may apply.
 
-    python3 tools/design_places.py [COMMIT]
+    python3 docs/history/tools/design_places.py [COMMIT]
 
-Without a commit it reads the files as they stand. A line that is listed is a place to look at; docs/DESIGN-PASS.md says
+Without a commit it reads the files as they stand. A line that is listed is a place to look at; docs/history/DESIGN-PASS.md says
 what became of each.
 """
 import re

@@ -1,7 +1,7 @@
 #!/usr/bin/env python3
 """Respells the names of this repository's definitions and lemmas: words in snake case, where they were in camel case or had dashes.
 
-usage: python3 tools/respell.py     at the top, once, after the kit's port.py
+usage: python3 docs/history/tools/respell.py     at the top, once, after the kit's port.py
 """
 
 import glob
