@@ -26,9 +26,9 @@ KIT = set(
     rt rt_ci cargo Vec String Option Result Ok Err Some None Copy Clone Drop Default Display Debug PartialEq Eq Ord Model From
     ArrayVec AllocError Global HostRuntime LineWriter BufReader BufWriter BufRead Read Write usize u8 u16 u32 u64 bool str
     self Self let else match for while if impl trait struct enum pub fn const static mut ref use mod ghost requires ensures
-    retain copy_within chunks_exact_mut main io std anyhow arrayvec byteorder thiserror drop_through take_through AllByRecursion find find_map
+    retain copy_within main io std anyhow arrayvec byteorder thiserror drop_through take_through AllByRecursion find find_map
     ContainsAt OnOk OnErr IfOk IfErr IfSome IsOk Appends output contents remaining write_all write_fmt read_to_end read_until
-    stdin stdout data HANDLES MatchResult flat_map decimal codes rattle tactic auto using abbrev unfoldable
+    stdin stdout data HANDLES chunks_exact_mut MatchResult flat_map decimal codes rattle tactic auto using abbrev unfoldable
     """.split()
 )
 
