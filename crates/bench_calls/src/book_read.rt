@@ -1,9 +1,8 @@
 //! A book, read account by account into two lists.
 
 use crate::calls_made::sum_of_account;
-use book::reader::read_account;
-use snapshot::account::{NO_READING, NO_WRITE};
-use snapshot::limits::{CHAIN_READINGS, WRITE_KEYS};
+use book::read_account;
+use snapshot::{CHAIN_READINGS, NO_READING, NO_WRITE, WRITE_KEYS};
 
 // Reads account after account, to the end of the book or to the first one that is refused, whose number and place count too.
 #[unsafe(no_mangle)]

@@ -1,13 +1,10 @@
 //! Lists of calls on a new engine, each made by the engine's method of its name.
 
-use engine::engine::Engine;
-use newest_store::newest::Newest;
-use snapshot::account::{AccountHead, ChainReading, NO_READING, NO_WRITE, Write};
-use snapshot::fault::EngineFault;
-use snapshot::limits::{CHAIN_READINGS, MOST_RECORDS, WRITE_KEYS};
-use store::traits::Store;
-use table_store::record::NO_RECORD;
-use table_store::table::Table;
+use engine::Engine;
+use newest_store::Newest;
+use snapshot::{AccountHead, CHAIN_READINGS, ChainReading, EngineFault, MOST_RECORDS, NO_READING, NO_WRITE, WRITE_KEYS, Write};
+use store::Store;
+use table_store::{NO_RECORD, Table};
 
 /// A call by its kind's number, with its numbers: `other` is a second leg or a first worker, `last` a worker or a key, `number`
 /// a clock reading, a position or a horizon.

@@ -1,5 +1,5 @@
 -- The reading of a whole book, account after account from its first byte, and the text of its listing.
-use Rattle.std.specs.Prelude.{◌≡◌, ℕ, ◌+◌, ◌<◌, ◌⊎◌, true, List, ◌++◌, map, length, take, drop, Ok, Err, codes, decimal, Some, None, Option, Result, IfSome}
+use Rattle.std.specs.Prelude.{◌≡◌, ℕ, ◌+◌, ◌<◌, ◌≤◌, ◌⊎◌, true, List, ◌++◌, map, length, take, drop, Ok, Err, codes, decimal, Some, None, Option, Result, IfSome}
 use Rattle.std.specs.Io.KnownBytes.{Appends, Keeps}
 use Rattle.std.specs.List.{flat_map, AllByRecursion}
 use Rattle.snapshot.specs.Accounts.{Account, head_of, lawful}
@@ -7,6 +7,8 @@ use Rattle.snapshot.specs.Refusals.{book_fault, refusal_number}
 use Rattle.snapshot.specs.Shown.{head_text, line_break, spaced}
 use Rattle.snapshot.specs.declared.account.AccountHead.{AccountHead}
 use Rattle.snapshot.specs.declared.fault.BookFault.{BookFault}
+use Rattle.book.specs.declared.output.Extent.{Extent}
+use Rattle.book.specs.declared.output.Extent.TheVariants.{Whole, Front}
 use Rattle.book.specs.declared.reader.AccountAt.{AccountAt}
 use Rattle.book.specs.Format.{account_bytes, front_account}
 use Rattle.book.specs.Outputs.{AppendsFront}
@@ -78,9 +80,15 @@ listing_text heads ending = flat_map head_line heads ++ ending_line (length head
 abbrev pub most_bytes : ℕ
 most_bytes = 65536
 
--- the bytes are those of the input that count, where its bytes are known
-pub record IsFrontOf (input : Option (List ℕ)) (bytes : List ℕ) : Type 0 where
+-- so much of an input that has these bytes
+abbrev pub Covers : List ℕ → Extent → Type 0
+Covers rest Whole = length rest ≤ most_bytes
+Covers rest Front = most_bytes < length rest
+
+-- the bytes are those of the input that count, and so much of it, where its bytes are known
+pub record IsFrontOf (input : Option (List ℕ)) (bytes : List ℕ) (extent : Extent) : Type 0 where
   pub front : IfSome input (λ rest. bytes ≡ take most_bytes rest)
+  pub told : IfSome input (λ rest. Covers rest extent)
 
 -- the text is that of a listing of this book
 pub record ListsBook (book text : List ℕ) : Type 0 where

@@ -6,10 +6,10 @@ ghost use Rattle.snapshot.specs.Intervals.{from_to};
 ghost use Rattle.book.specs.Theorems.{ValuesFit};
 ghost use Rattle.book.specs.Format.{as_account};
 
-use snapshot::account::{ChainReading, Write};
-use snapshot::interval::Interval;
-use snapshot::limits::{CHAIN_READINGS, OPEN_END, WRITE_KEYS, is_key, is_timestamp, is_worker};
-use snapshot::writes::are_rising;
+use snapshot::{
+    CHAIN_READINGS, ChainReading, Interval, OPEN_END, WRITE_KEYS, Write, are_rising, is_key,
+    is_timestamp, is_worker,
+};
 
 /// The account of a committed chain: its final interval, its timestamp (0 if nothing was written), its readings in order,
 /// and its writes.

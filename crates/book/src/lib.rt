@@ -1,11 +1,18 @@
 //! The book of accounts: an account's bytes, written and read, the reading of a whole book, and its listing.
 #![tactic(auto)]
 
-pub mod account;
+mod account;
 mod lawful;
-pub mod listing;
-pub mod output;
+mod listing;
+mod output;
 mod packed;
-pub mod reader;
-pub mod sum;
-pub mod writer;
+mod reader;
+mod sum;
+mod writer;
+
+pub use account::Account;
+pub use listing::{Listing, read_book};
+pub use output::{Extent, list_book, write_whole};
+pub use reader::{AccountAt, read_account};
+pub use sum::last_byte;
+pub use writer::MARK;

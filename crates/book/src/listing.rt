@@ -4,8 +4,7 @@ ghost use Rattle.book.specs.Books.{ListedBehind, ReadBehind, AccountOrRefused, l
 ghost use Rattle.book.specs.Format.{size_of};
 
 use crate::reader::{AccountAt, account_at};
-use snapshot::account::AccountHead;
-use snapshot::fault::BookFault;
+use snapshot::{AccountHead, BookFault};
 use std::alloc::AllocError;
 use std::fmt;
 

@@ -2,7 +2,7 @@
 ghost use Rattle.std.specs.Prelude.{◌<◌, length, drop, take, IfOk, IfSome, MatchResult, OnErr, OnOk, string_bytes};
 ghost use Rattle.std.specs.Io.{WritesAtMost};
 ghost use Rattle.std.specs.Io.KnownBytes.{Appends, Keeps, WriteAppends};
-ghost use Rattle.book.specs.Books.{GainsFront, GainsListing, IsFrontOf, ListsBook, most_bytes};
+ghost use Rattle.book.specs.Books.{Covers, GainsFront, GainsListing, IsFrontOf, ListsBook, most_bytes};
 ghost use Rattle.book.specs.Outputs.{AppendsFront};
 
 use crate::listing::{Listing, read_book};
@@ -10,28 +10,43 @@ use std::alloc::Global;
 use std::io::{self, ErrorKind, Read, Write};
 
 // How many bytes of an input count.
-const MOST_BYTES: u64 = 65_536;
+const MOST_BYTES: usize = 65_536;
 
-/// Reads the book on the input, of which the first 65,536 bytes count, and writes the text of its listing. Fails where the
-/// input cannot be read, the output cannot be written, or there is no memory. Where the bytes of input and output are known,
-/// as in memory, the output has gained that text; after an error nothing, or a front of it that leaves some of it unwritten.
-#[tactic(auto, using(crate::proofs::Outputs::gains_none, crate::proofs::Outputs::gains_front, crate::proofs::Outputs::gains_listing))]
-pub fn list_book<R: Read + Drop, W: Write>(heap: Global, input: R, output: &mut W) -> io::Result<()>
-    ensures lists { OnOk result (IfSome (R.Read.remaining input) (λ rest. GainsListing (take most_bytes rest) (W.contents output.old) (W.contents output.new))) }
-    ensures front { OnErr result (IfSome (R.Read.remaining input) (λ rest. GainsFront (take most_bytes rest) (W.contents output.old) (W.contents output.new))) }
-{
-    let text = read_listing(heap, input)?;
-    write_whole(output, text.as_bytes())
+/// Which bytes of an input a listing covers.
+#[derive(Clone, Copy, Debug, PartialEq, Eq)]
+pub enum Extent {
+    /// All of them.
+    Whole,
+    /// The first 65,536; at least one more follows.
+    Front,
 }
 
-// The text of the listing of the book on the input.
-#[tactic(auto, using(crate::proofs::Outputs::lists_known))]
-fn read_listing<R: Read + Drop>(heap: Global, input: R) -> io::Result<String>
-    ensures { IfOk result (λ text. IfSome (R.Read.remaining input) (λ rest. ListsBook (take most_bytes rest) (string_bytes text))) }
+/// Reads the book on the input, of which the first 65,536 bytes count, writes the text of its listing, and answers whether more
+/// bytes follow. Fails where the input cannot be read, the output cannot be written, or there is no memory. Where the bytes of
+/// input and output are known, as in memory, the output has gained that text; after an error nothing, or a front of it that
+/// leaves some of it unwritten.
+#[tactic(auto, using(crate::proofs::Outputs::gains_none, crate::proofs::Outputs::fails_front, crate::proofs::Outputs::gains_listing))]
+pub fn list_book<R: Read + Drop, W: Write>(
+    heap: Global,
+    input: R,
+    output: &mut W,
+) -> io::Result<Extent>
+    ensures lists { OnOk result (IfSome (R.Read.remaining input) (λ rest. GainsListing (take most_bytes rest) (W.contents output.old) (W.contents output.new))) }
+    ensures front { OnErr result (IfSome (R.Read.remaining input) (λ rest. GainsFront (take most_bytes rest) (W.contents output.old) (W.contents output.new))) }
+    ensures extent { IfOk result (λ extent. IfSome (R.Read.remaining input) (λ rest. Covers rest extent)) }
 {
-    let book = first_bytes(heap, input)?;
+    let (book, extent) = first_bytes(heap, input)?;
+    let text = listed_text(heap, book.as_slice())?;
+    write_whole(output, text.as_bytes()).and(Ok(extent))
+}
+
+// The text of the listing of a book.
+#[tactic(auto, using(crate::proofs::Outputs::lists_book))]
+fn listed_text(heap: Global, book: &[u8]) -> io::Result<String>
+    ensures { IfOk result (λ text. ListsBook book.now (string_bytes text)) }
+{
     let mut heads = Vec::new(heap);
-    let ending = read_book(book.as_slice(), &mut heads)?;
+    let ending = read_book(book, &mut heads)?;
     let listing = Listing {
         heads: heads.as_slice(),
         ending,
@@ -39,14 +54,18 @@ fn read_listing<R: Read + Drop>(heap: Global, input: R) -> io::Result<String>
     Ok(format!(in heap; "{listing}")?)
 }
 
-// The bytes of the input that count.
-#[tactic(auto, using(crate::proofs::Outputs::known_front))]
-fn first_bytes<R: Read + Drop>(heap: Global, input: R) -> io::Result<Vec<u8>>
-    ensures { IfOk result (λ bytes. IsFrontOf (R.Read.remaining input) bytes.items) }
+// The bytes of the input that count, and whether more follow: one byte more is asked for.
+#[tactic(auto, using(crate::proofs::Outputs::known_whole, crate::proofs::Outputs::known_front))]
+fn first_bytes<R: Read + Drop>(heap: Global, input: R) -> io::Result<(Vec<u8>, Extent)>
+    ensures { IfOk result (λ read. IsFrontOf (R.Read.remaining input) read.0.items read.1) }
 {
     let mut bytes = Vec::new(heap);
-    let _ = input.take(MOST_BYTES).read_to_end(&mut bytes)?;
-    Ok(bytes)
+    let _ = input.take(MOST_BYTES as u64 + 1).read_to_end(&mut bytes)?;
+    if bytes.len() <= MOST_BYTES {
+        return Ok((bytes, Extent::Whole));
+    }
+    bytes.truncate(MOST_BYTES);
+    Ok((bytes, Extent::Front))
 }
 
 /// Writes all the bytes, in as many writes as it takes. Fails where the output cannot be written, takes none of the bytes

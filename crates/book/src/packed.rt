@@ -8,7 +8,7 @@ ghost use Rattle.book.specs.Format.{head_size, reading_bytes, reading_from, read
 
 use arrayvec::ArrayVec;
 use byteorder::{BigEndian, ByteOrder};
-use snapshot::account::{ChainReading, Reading, Write};
+use snapshot::{ChainReading, Reading, Write};
 
 // How many bytes stand before the readings.
 pub(crate) const HEAD_SIZE: usize = 28;

@@ -14,10 +14,9 @@ use crate::sum::last_byte;
 use crate::writer::MARK;
 use arrayvec::ArrayVec;
 use byteorder::{BigEndian, ByteOrder};
-use snapshot::account::{AccountHead, ChainReading, Write};
-use snapshot::fault::{BookFault, Refusal};
-use snapshot::interval::Interval;
-use snapshot::limits::{CHAIN_READINGS, WRITE_KEYS};
+use snapshot::{
+    AccountHead, BookFault, CHAIN_READINGS, ChainReading, Interval, Refusal, WRITE_KEYS, Write,
+};
 use std::marker::Model;
 
 /// An account's five numbers, and the place after its bytes.

@@ -10,7 +10,7 @@ use crate::lawful::LawfulAccount;
 use crate::packed::{HEAD_SIZE, account_size, pack_all, writes_place};
 use crate::sum::last_byte;
 use byteorder::{BigEndian, ByteOrder};
-use snapshot::fault::{BookFault, Refusal};
+use snapshot::{BookFault, Refusal};
 
 /// The two bytes with which an account begins.
 pub const MARK: [u8; 2] = [0xC3, 0x3C];

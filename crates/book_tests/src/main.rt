@@ -5,7 +5,7 @@
 #[cfg(test)]
 mod tests;
 
-use book::listing::{Listing, read_book};
+use book::{Listing, read_book};
 use std::fs;
 
 const BOOKS: usize = 24;

@@ -1,12 +1,6 @@
 //! Tests of the book's writer and reader: what is written, every refusal with its number and place, and the order of checks.
-use book::account::Account;
-use book::listing::{Listing, read_book};
-use book::output::list_book;
-use book::reader::read_account;
-use book::sum::last_byte;
-use snapshot::account::{AccountHead, ChainReading, NO_READING, NO_WRITE, Reading, Write};
-use snapshot::fault::{BookFault, Layer};
-use snapshot::interval::Interval;
+use book::{Account, Listing, last_byte, list_book, read_account, read_book};
+use snapshot::{AccountHead, BookFault, ChainReading, Interval, Layer, NO_READING, NO_WRITE, Reading, Write};
 use std::alloc::Global;
 use std::io::{self, ErrorKind};
 use std::process::Abort;

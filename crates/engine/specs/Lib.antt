@@ -9,3 +9,4 @@ pub mod StepOf
 pub mod Engines
 pub mod EngineLaw
 pub mod Performing
+pub mod Equality

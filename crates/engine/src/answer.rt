@@ -1,9 +1,10 @@
 //! What calls of an engine answer, as values.
 ghost use Rattle.std.specs.Prelude.{◌≡◌};
 ghost use Rattle.snapshot.specs.Accounts.{head_of};
+ghost use Rattle.engine.specs.Equality.{equal_accounts, equal_accounts_law};
 
-use snapshot::account::{AccountHead, ChainReading, Write};
-use snapshot::limits::{CHAIN_READINGS, WRITE_KEYS};
+use snapshot::{AccountHead, CHAIN_READINGS, ChainReading, WRITE_KEYS, Write};
+use std::fmt;
 use std::marker::Model;
 
 /// The account of a committed chain, with memory of its own.
@@ -51,9 +52,32 @@ impl CommittedAccount {
     }
 }
 
+/// Two accounts are equal where their five numbers, their readings and their writes are.
+impl PartialEq for CommittedAccount {
+    ghost eq = { equal_accounts };
+
+    ghost laws = { equal_accounts_law };
+
+    fn eq(&self, other: &CommittedAccount) -> bool {
+        self.readings() == other.readings()
+            && self.writes() == other.writes()
+            && self.head() == other.head()
+    }
+}
+
+impl fmt::Debug for CommittedAccount {
+    fn fmt<W: fmt::Write>(&self, f: &mut fmt::Formatter<W>) -> fmt::Result {
+        f.debug_struct("CommittedAccount")
+            .field("head", &self.head())
+            .field("readings", &self.readings())
+            .field("writes", &self.writes())
+            .finish()
+    }
+}
+
 /// What an accepted call answers: begin, hand and join the new leg, fork the two new legs, read a value, count how many notices
 /// wait and how many were lost, commit the account; the others that they are done.
-#[derive(Drop)]
+#[derive(PartialEq, Debug, Drop)]
 pub enum Answer {
     Leg(u8),
     Legs(u8, u8),

@@ -18,15 +18,13 @@ ghost use Rattle.engine.specs.declared.leg.LegCall.TheVariants as call;
 use crate::leg::{Leg, LegCall, OpenLeg};
 use crate::named::Named;
 use crate::worker::Worker;
-use engine_model::records::{CacheEntry, LegReading};
-use engine_parts::cache::{CACHES, Cache};
-use engine_parts::readings::Readings;
-use engine_parts::write_set::WriteSet;
-use snapshot::account::{AccountHead, ChainReading, Reading, Write};
-use snapshot::fault::{EngineFault, Fault, Refusal};
-use snapshot::interval::Interval;
-use snapshot::limits::{CHAIN_READINGS, LEGS};
-use store::traits::Reads;
+use engine_model::{CacheEntry, LegReading};
+use engine_parts::{CACHES, Cache, Readings, WriteSet};
+use snapshot::{
+    AccountHead, CHAIN_READINGS, ChainReading, EngineFault, Fault, Interval, LEGS, Reading,
+    Refusal, Write,
+};
+use store::Reads;
 
 // How many legs a chain can have.
 const ALL_LEGS: usize = LEGS as usize;

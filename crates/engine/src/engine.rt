@@ -13,9 +13,8 @@ ghost use Rattle.engine.specs.Engines.{engine_of, IsStep, IsCommit};
 use crate::chain::Room;
 use crate::named::Named;
 use crate::state::State;
-use snapshot::account::{AccountHead, ChainReading, Write};
-use snapshot::fault::EngineFault;
-use store::traits::Store;
+use snapshot::{AccountHead, ChainReading, EngineFault, Write};
+use store::Store;
 
 /// What the engine keeps itself, and the store below.
 #[derive(Drop)]

@@ -7,10 +7,8 @@ ghost use Rattle.engine.specs.Legs.{joined_leg, leg_of, open_leg_of, open_in, le
 ghost use Rattle.engine.specs.Workers.{worker_number};
 
 use crate::worker::Worker;
-use engine_parts::write_set::WriteSet;
-use snapshot::account::{Reading, Write};
-use snapshot::fault::Refusal;
-use snapshot::interval::Interval;
+use engine_parts::WriteSet;
+use snapshot::{Interval, Reading, Refusal, Write};
 
 // A leg that is open: the worker it runs on, the times at which its readings are known to agree, and what it has written.
 #[derive(Clone, Copy)]

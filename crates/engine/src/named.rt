@@ -8,8 +8,7 @@ ghost use Rattle.engine.specs.Naming.{naming, in_range_or_refused, place_in_rang
 ghost use Rattle.engine.specs.Workers.{worker_number};
 
 use crate::worker::Worker;
-use snapshot::fault::{EngineFault, Fault, Layer, NOT_NAMED, Refusal};
-use snapshot::limits::{is_key, is_leg, is_place};
+use snapshot::{EngineFault, Fault, Layer, NOT_NAMED, Refusal, is_key, is_leg, is_place};
 
 #[derive(Clone, Copy)]
 pub(crate) struct Named {

@@ -11,11 +11,9 @@ use crate::chain::Room;
 use crate::engine::Engine;
 use crate::named::Named;
 use crate::state::State;
-use engine_model::calls::Call;
-use snapshot::account::{NO_READING, NO_WRITE};
-use snapshot::fault::EngineFault;
-use snapshot::limits::{CHAIN_READINGS, WRITE_KEYS};
-use store::traits::Store;
+use engine_model::Call;
+use snapshot::{CHAIN_READINGS, EngineFault, NO_READING, NO_WRITE, WRITE_KEYS};
+use store::Store;
 
 impl<S: Store> Engine<S> {
     /// Makes the call. Refused as the call of that name is: the reply is an answer of the call's kind, or one of the refusals that

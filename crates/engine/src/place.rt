@@ -7,7 +7,7 @@ ghost use Rattle.engine.specs.Workers.{worker_number};
 
 use crate::chain::Chain;
 use crate::worker::Worker;
-use snapshot::limits::PLACES;
+use snapshot::PLACES;
 
 // How many chains can be open at a time.
 pub(crate) const ALL_PLACES: usize = PLACES as usize;

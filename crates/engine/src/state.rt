@@ -19,13 +19,12 @@ ghost use Rattle.engine.specs.Engines.{engine_over, StepsOver, StepsOverAny, Com
 use crate::chain::Room;
 use crate::named::Named;
 use crate::place::{ALL_PLACES, Place, free_places};
-use engine_model::records::Notice;
-use engine_parts::cache::{CACHES, Cache, empty_caches};
-use engine_parts::notices::Notices;
-use snapshot::account::{AccountHead, ChainReading, Write};
-use snapshot::fault::{EngineFault, Fault, Layer, Refusal};
-use snapshot::limits::{is_leg, is_worker};
-use store::traits::{Reads, Store};
+use engine_model::Notice;
+use engine_parts::{CACHES, Cache, Notices, empty_caches};
+use snapshot::{
+    AccountHead, ChainReading, EngineFault, Fault, Layer, Refusal, Write, is_leg, is_worker,
+};
+use store::{Reads, Store};
 
 // The chain at each place, the cache of each worker, and the notices.
 #[derive(Drop)]

@@ -4,7 +4,7 @@ ghost use Rattle.engine_model.specs.Examples as example;
 ghost use Rattle.engine_model.specs.declared.calls.Call.TheVariants as call;
 
 use crate::calls::Call;
-use snapshot::limits::{CHAIN_READINGS, WRITE_KEYS};
+use snapshot::{CHAIN_READINGS, WRITE_KEYS};
 
 fn begin(place: u8, worker: u8) -> Call
     ensures { result ≡ call.Begin place worker }

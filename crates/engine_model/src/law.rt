@@ -8,7 +8,7 @@ ghost use Rattle.engine_model.specs.Rules.{the_limits, the_rules};
 ghost use Rattle.engine_model.specs.StoreRefusals.{StoreRefusalsInEveryTrace};
 
 use crate::limits::ChainLimits;
-use snapshot::limits::{CHAIN_READINGS, WRITE_KEYS};
+use snapshot::{CHAIN_READINGS, WRITE_KEYS};
 
 /// The limits of every chain. Proved with them: every trace by the rules keeps the law, over a new store of any depth and
 /// capacity; whatever caches, timestamps, write sets and limits keep their own laws may stand in the place of these; in every

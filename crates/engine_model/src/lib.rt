@@ -2,8 +2,14 @@
 //! rules themselves.
 #![tactic(auto)]
 
-pub mod calls;
-pub mod examples;
-pub mod law;
-pub mod limits;
-pub mod records;
+mod calls;
+mod examples;
+mod law;
+mod limits;
+mod records;
+
+pub use calls::Call;
+pub use examples::{break_in, read_from_cache, written_behind};
+pub use law::trace_law;
+pub use limits::ChainLimits;
+pub use records::{CacheEntry, LegAndKey, LegReading, Notice};

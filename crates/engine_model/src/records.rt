@@ -1,8 +1,7 @@
 //! The records that an engine keeps in its caches, its chains and its list of notices, and how they are found.
 ghost use Rattle.std.specs.Prelude.{◌==◌, ◌&&◌};
 
-use snapshot::account::{ChainReading, Reading};
-use snapshot::find::Keyed;
+use snapshot::{ChainReading, Keyed, Reading};
 
 /// What a worker's cache holds of a key.
 #[derive(Clone, Copy, Default)]

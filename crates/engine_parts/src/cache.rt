@@ -4,11 +4,8 @@ ghost use Rattle.engine_model.specs.Caches as model;
 ghost use Rattle.engine_parts.specs.Caches.{cache_of, caches_of};
 
 use crate::list::BoundedList;
-use engine_model::records::{CacheEntry, Notice};
-use snapshot::account::Reading;
-use snapshot::find::find;
-use snapshot::interval::Interval;
-use snapshot::limits::{CACHE_KEYS, WORKERS};
+use engine_model::{CacheEntry, Notice};
+use snapshot::{CACHE_KEYS, Interval, Reading, WORKERS, find};
 use std::marker::Model;
 
 /// How many caches there are: one for a worker.

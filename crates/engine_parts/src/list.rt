@@ -4,7 +4,7 @@ ghost use Rattle.std.specs.Prelude.{◌≡◌, ◌≤◌, false, [], ◌∷◌, 
 ghost use Rattle.std.specs.List.{find};
 ghost use Rattle.engine_parts.specs.Lists.{elements_of};
 
-use snapshot::find::{Keyed, find};
+use snapshot::{Keyed, find};
 
 #[derive(Clone, Copy)]
 pub struct BoundedList<T, const N: usize> {

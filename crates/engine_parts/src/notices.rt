@@ -8,9 +8,8 @@ ghost use Rattle.engine_parts.specs.WaitingNotices.{notices_of};
 
 use crate::cache::{CACHES, Cache};
 use crate::list::BoundedList;
-use engine_model::records::Notice;
-use snapshot::account::{Reading, Write};
-use snapshot::limits::{WAITING_NOTICES, WORKERS};
+use engine_model::Notice;
+use snapshot::{Reading, WAITING_NOTICES, WORKERS, Write};
 
 /// The notices that wait, the one raised first before the others, and how many were lost.
 #[derive(Drop)]

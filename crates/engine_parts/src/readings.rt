@@ -4,8 +4,8 @@ ghost use Rattle.engine_model.specs.Steps.{own_reading};
 ghost use Rattle.engine_parts.specs.KeysRead.{readings_of, reads_key};
 
 use crate::list::BoundedList;
-use engine_model::records::{LegAndKey, LegReading};
-use snapshot::limits::{CHAIN_READINGS, KEYS, is_key};
+use engine_model::{LegAndKey, LegReading};
+use snapshot::{CHAIN_READINGS, KEYS, is_key};
 use std::marker::Model;
 
 /// The readings, and whether there is one of a key, so that a key that was not read is not looked for.

@@ -6,10 +6,7 @@ ghost use Rattle.engine_model.specs.WriteSets.{place_by_order, with_write, unite
 ghost use Rattle.engine_parts.specs.WriteSets.{writes_of, fit_or_refused};
 
 use crate::list::BoundedList;
-use snapshot::account::Write;
-use snapshot::fault::Refusal;
-use snapshot::find::find;
-use snapshot::limits::WRITE_KEYS;
+use snapshot::{Refusal, WRITE_KEYS, Write, find};
 
 /// The writes. `write` alone puts one in, where its key belongs.
 #[derive(Clone, Copy)]

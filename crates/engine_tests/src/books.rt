@@ -1,17 +1,13 @@
 //! Accounts of commits written to a book one after another, and read back.
 use crate::builders::Seen::{Done, Leg, Legs, Value};
 use crate::builders::{answers, begin, fork, join, made, put, read, write};
-use book::account::Account;
-use book::reader::{AccountAt, read_account};
-use engine::engine::Engine;
-use newest_store::newest::Newest;
-use snapshot::account::{AccountHead, ChainReading, NO_READING, NO_WRITE, Write};
-use snapshot::fault::BookFault;
-use snapshot::fault::Refusal::AccountCut;
-use snapshot::interval::Interval;
-use snapshot::limits::{CHAIN_READINGS, OPEN_END, WRITE_KEYS};
+use book::{Account, AccountAt, read_account};
+use engine::Engine;
+use newest_store::Newest;
+use snapshot::{AccountHead, BookFault, CHAIN_READINGS, ChainReading, Interval, NO_READING, NO_WRITE, OPEN_END, WRITE_KEYS, Write};
+use snapshot::Refusal::AccountCut;
 use std::process::Abort;
-use store::traits::Store;
+use store::Store;
 
 // At place 0 a chain reads key 7 at worker 3, then key 9 at worker 1 and writes key 7 at worker 2, and is joined as leg 3.
 fn begin_dock<S: Store>(rt: &impl Abort, engine: &mut Engine<S>) {

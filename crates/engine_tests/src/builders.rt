@@ -1,14 +1,10 @@
 //! An engine's calls in short, with their numbers in the order of the engine's parameters, and the answers that a test expects
 //! of them.
-use engine::answer::Answer;
-use engine::engine::Engine;
-use engine_model::calls::Call;
-use snapshot::account::{AccountHead, ChainReading, Reading, Write};
-use snapshot::fault::{EngineFault, Fault, Layer, NOT_NAMED, Refusal};
-use snapshot::interval::Interval;
-use snapshot::limits::{CHAIN_READINGS, OPEN_END, WRITE_KEYS};
+use engine::{Answer, Engine};
+use engine_model::Call;
+use snapshot::{AccountHead, CHAIN_READINGS, ChainReading, EngineFault, Fault, Interval, Layer, NOT_NAMED, OPEN_END, Reading, Refusal, WRITE_KEYS, Write};
 use std::process::Abort;
-use store::traits::Store;
+use store::Store;
 
 // The last time that a commit can have.
 pub(crate) const LAST_TIME: u64 = OPEN_END - 1;

@@ -1,10 +1,8 @@
 //! A worker's cache: its eight entries in the order of their use, what a store's answer and a notice make of an entry, and
 //! which entry answers.
-use engine_model::records::{CacheEntry, Notice};
-use engine_parts::cache::{CACHES, Cache};
-use snapshot::account::Reading;
-use snapshot::interval::Interval;
-use snapshot::limits::{CACHE_KEYS, OPEN_END};
+use engine_model::{CacheEntry, Notice};
+use engine_parts::{CACHES, Cache};
+use snapshot::{CACHE_KEYS, Interval, OPEN_END, Reading};
 use std::process::Abort;
 
 fn reading(value: u32, timestamp: u64, promise: u64) -> Reading {

@@ -4,14 +4,11 @@ use crate::builders::{
     answers, begin, commit_into, committed, fork, read, refused_leg, refused_place, store_refuses,
     write,
 };
-use engine::engine::Engine;
-use engine_model::calls::Call::Count;
-use newest_store::newest::Newest;
-use snapshot::account::{AccountHead, ChainReading, Reading, Write};
-use snapshot::fault::Refusal::{AnotherLegOpen, ClockTooHigh, NotOpen, PlaceOccupied, TooShort};
-use snapshot::fault::{EngineFault, Fault, Layer, Refusal};
-use snapshot::interval::Interval;
-use snapshot::limits::OPEN_END;
+use engine::Engine;
+use engine_model::Call::Count;
+use newest_store::Newest;
+use snapshot::{AccountHead, ChainReading, EngineFault, Fault, Interval, Layer, OPEN_END, Reading, Refusal, Write};
+use snapshot::Refusal::{AnotherLegOpen, ClockTooHigh, NotOpen, PlaceOccupied, TooShort};
 use std::process::Abort;
 
 // What stands in the lists before.

@@ -5,19 +5,17 @@ use crate::builders::{
     LAST_TIME, answers, begin, commit, commit_into, committed, fork, gone, hand, join, read,
     refused, refused_leg, refused_place, store_refuses, write, wrote,
 };
-use engine::engine::Engine;
-use engine_model::calls::Call::{Deliver, Discard};
-use newest_store::newest::Newest;
-use snapshot::fault::Refusal::{
+use engine::Engine;
+use engine_model::Call::{Deliver, Discard};
+use newest_store::Newest;
+use snapshot::Refusal::{
     AnotherLegOpen, CapacityExceeded, ClockTooHigh, IntervalsApart, NoSuchNotice, NoTimeLeft,
     NotOpen, OutOfRange, PlaceOccupied, ReadingsFull, SameLeg, TooManyLegs, TooShort, WriteSetFull,
 };
-use snapshot::fault::{EngineFault, Fault, Layer, NOT_NAMED};
-use snapshot::limits::OPEN_END;
+use snapshot::{EngineFault, Fault, Layer, NOT_NAMED, OPEN_END};
 use std::process::Abort;
-use store::traits::Store;
-use table_store::record::NO_RECORD;
-use table_store::table::Table;
+use store::Store;
+use table_store::{NO_RECORD, Table};
 
 // The refusal of a notice that does not wait: its fault names nothing.
 fn no_such_notice() -> Seen {

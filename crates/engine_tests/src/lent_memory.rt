@@ -7,13 +7,11 @@ ghost use Rattle.record_store.specs.Tables.{HoldsOnly, capacity_of};
 ghost use Rattle.engine_model.specs.Engines.{new_engine};
 ghost use Rattle.engine.specs.Performing.{answers_to, engine_after_calls};
 
-use engine::answer::Answer;
-use engine::run::run_over;
-use engine_model::calls::Call;
-use snapshot::fault::EngineFault;
+use engine::{Answer, run_over};
+use engine_model::Call;
+use snapshot::EngineFault;
 use std::alloc::AllocError;
-use table_store::record::Record;
-use table_store::table::Table;
+use table_store::{Record, Table};
 
 /// Makes a new table in this memory, lends it to a new engine for the calls, adds their answers to the list, and lets the table
 /// go. Fit memory then holds the versions that the calls have left in the store, and nothing else; unfit memory is left alone. The

@@ -1,7 +1,7 @@
 //! Lists of bounded length.
 use crate::builders::put;
-use engine_parts::list::BoundedList;
-use snapshot::account::Write;
+use engine_parts::BoundedList;
+use snapshot::Write;
 use std::process::Abort;
 
 // A list of room for four with the numbers 1, 2 and 3.

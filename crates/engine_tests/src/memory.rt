@@ -5,20 +5,16 @@ use crate::builders::{
     answers, begin, commit, prune, put, read, seen_of, store_refuses, write, wrote,
 };
 use crate::lent_memory::run_in;
-use engine::answer::Answer;
-use engine::engine::Engine;
-use engine::run::{run, run_over};
-use engine_model::calls::Call::{self, Count};
-use newest_store::newest::Newest;
-use snapshot::fault::EngineFault;
-use snapshot::fault::Refusal::CapacityExceeded;
-use snapshot::limits::KEYS;
+use engine::{Answer, Engine, run, run_over};
+use engine_model::Call::{self, Count};
+use newest_store::Newest;
+use snapshot::{EngineFault, KEYS};
+use snapshot::Refusal::CapacityExceeded;
 use std::alloc::{AllocError, Global};
 use std::process::Abort;
 use std::test::Fail;
-use store::traits::{Reads, Store};
-use table_store::record::{NO_RECORD, Record};
-use table_store::table::Table;
+use store::{Reads, Store};
+use table_store::{NO_RECORD, Record, Table};
 
 // What stands in memory before a table is made in it.
 const USED: Record = Record {

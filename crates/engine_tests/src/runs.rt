@@ -5,16 +5,14 @@ use crate::builders::{
     abandon, answers, begin, commit, committed, gone, hand, prune, read, refused_place, seen_of,
     store_refuses, write, wrote,
 };
-use engine::answer::Answer;
-use engine::run::run;
-use engine_model::calls::Call::{self, Count};
-use newest_store::newest::Newest;
-use snapshot::fault::EngineFault;
-use snapshot::fault::Refusal::{CapacityExceeded, NotOpen};
+use engine::{Answer, run};
+use engine_model::Call::{self, Count};
+use newest_store::Newest;
+use snapshot::EngineFault;
+use snapshot::Refusal::{CapacityExceeded, NotOpen};
 use std::process::Abort;
 use std::test::Fail;
-use table_store::record::NO_RECORD;
-use table_store::table::Table;
+use table_store::{NO_RECORD, Table};
 
 // Key 5 gets a version at time 10, while a chain at place 0 knows key 6 up to time 0 alone and then reads key 5. A chain at
 // place 2 would give key 5 a version at time 20.

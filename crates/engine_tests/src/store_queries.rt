@@ -6,17 +6,16 @@ use crate::builders::{
     put, read, refused, refused_leg, store_refuses, write, wrote,
 };
 use crate::watched_store::{NONE, Queries, Watched, one_commit, one_prune, version};
-use engine::engine::Engine;
-use engine_model::calls::Call;
-use newest_store::newest::Newest;
-use snapshot::account::Write;
-use snapshot::fault::Refusal::{
+use engine::Engine;
+use engine_model::Call;
+use newest_store::Newest;
+use snapshot::{KEYS, OPEN_END, Write};
+use snapshot::Refusal::{
     AnotherLegOpen, ClockTooHigh, NoTimeLeft, NotOpen, OutOfRange, ReadingsFull, TooShort,
 };
-use snapshot::limits::{KEYS, OPEN_END};
 use std::ops::Range;
 use std::process::Abort;
-use store::traits::Store;
+use store::Store;
 
 // An engine over a newest store that gave key 0 the value 100 at time 1, key 1 the value 101 at time 2, and so on for all
 // 64 keys.

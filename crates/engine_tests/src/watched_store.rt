@@ -2,12 +2,10 @@
 ghost use Rattle.std.proofs.Common.{lit≤};
 ghost use Rattle.newest_store.specs.Newest.{newest_meaning};
 
-use newest_store::newest::Newest;
-use snapshot::account::{NO_WRITE, Reading, Write};
-use snapshot::fault::Fault;
-use snapshot::limits::WRITE_KEYS;
+use newest_store::Newest;
+use snapshot::{Fault, NO_WRITE, Reading, WRITE_KEYS, Write};
 use std::cell::Cell;
-use store::traits::{Reads, Store};
+use store::{Reads, Store};
 
 // A call of the store; a commit with its number of writes and the writes, behind which no writes follow.
 #[derive(Clone, Copy, PartialEq, Eq, Debug)]

@@ -1,4 +1,6 @@
 //! A store that keeps the newest version of each key and nothing else.
 #![tactic(auto)]
 
-pub mod newest;
+mod newest;
+
+pub use newest::Newest;

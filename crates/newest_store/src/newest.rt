@@ -5,13 +5,8 @@ ghost use Rattle.snapshot.specs.Limits.{key_count};
 ghost use Rattle.store.specs.Meaning.{new_store, versions_kept, with_writes, written_to};
 ghost use Rattle.newest_store.specs.Newest.{newest_meaning, version_at, version_with};
 
-use snapshot::account::{Reading, Write};
-use snapshot::fault::{Fault, Layer, Refusal};
-use snapshot::limits::KEYS;
-use store::checks::{check_commit, check_query};
-use store::traits::{Reads, Store};
-use store::update::Update;
-use store::version::Version;
+use snapshot::{Fault, KEYS, Layer, Reading, Refusal, Write};
+use store::{Reads, Store, Update, Version, check_commit, check_query};
 
 /// The last timestamp, and the newest version of each key.
 #[derive(Drop)]

@@ -7,10 +7,9 @@ ghost use Rattle.records.specs.Records.{first_records, written};
 ghost use Rattle.records.specs.Counts.{CountsOf};
 
 use crate::memory::RecordMemory;
-use records::per_key::PerKey;
-use records::record::Record;
-use snapshot::limits::KEYS;
-use store::update::Update;
+use records::{PerKey, Record};
+use snapshot::KEYS;
+use store::Update;
 
 // Adds a record after the first `kept`, and counts it.
 #[tactic(auto, using(std::proofs::lemmas::List::take_more_set, crate::proofs::Added::added_counts, records::proofs::Counting::counted_le))]

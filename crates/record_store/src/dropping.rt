@@ -7,9 +7,9 @@ ghost use Rattle.records.specs.Records.{drop_firsts, no_record};
 ghost use Rattle.records.specs.Counts.{CountsOf, excess_for};
 
 use crate::memory::RecordMemory;
-use records::per_key::PerKey;
-use snapshot::account::Write;
-use store::update::Update;
+use records::PerKey;
+use snapshot::Write;
+use store::Update;
 
 // How many of `count` versions of a key go so that with one more there are no more than the depth.
 fn excess_of(count: u16, depth: u16) -> u16

@@ -5,7 +5,11 @@
 mod adding;
 mod dropping;
 mod looking;
-pub mod memory;
+mod memory;
 mod slice;
-pub mod stores;
-pub mod table;
+mod stores;
+mod table;
+
+pub use memory::RecordMemory;
+pub use stores::RecordStore;
+pub use table::Table;

@@ -6,8 +6,8 @@ ghost use Rattle.records.specs.Layouts.{in_order};
 ghost use Rattle.records.specs.Records.{has_key, no_record, of_key};
 
 use crate::memory::RecordMemory;
-use records::record::Record;
-use snapshot::account::Reading;
+use records::Record;
+use snapshot::Reading;
 
 // The newest version of the key that is not later than the time, among the first `kept` records. If no later one is of the key,
 // it is current up to `last`.

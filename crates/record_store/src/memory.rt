@@ -5,7 +5,7 @@ ghost use Rattle.snapshot.specs.Limits.{key_count, most_records};
 ghost use Rattle.records.specs.Records.{no_record};
 ghost use Rattle.records.specs.declared.record.Record.{Record as ARecord};
 
-use records::record::Record;
+use records::Record;
 
 /// Places for records, from 0.
 pub trait RecordMemory {

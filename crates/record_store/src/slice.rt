@@ -4,8 +4,8 @@ ghost use Rattle.std.specs.List.{copy_within};
 ghost use Rattle.records.specs.Slices.{LiesIn, is_table_size, zeros_after};
 
 use crate::memory::RecordMemory;
-use records::record::{NO_RECORD, Record};
-use snapshot::limits::{LEAST_RECORDS, MOST_RECORDS};
+use records::{NO_RECORD, Record};
+use snapshot::{LEAST_RECORDS, MOST_RECORDS};
 
 // Is this memory fit for a table: 64 to 1,024 records?
 pub(crate) fn is_fit(memory: &[Record]) -> bool

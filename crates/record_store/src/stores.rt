@@ -13,12 +13,9 @@ use crate::adding::{append, begin};
 use crate::dropping::{count_versions, drop_runs, excess_versions, total_excess};
 use crate::looking::{count_up_to, newest_at};
 use crate::memory::RecordMemory;
-use records::per_key::PerKey;
-use snapshot::account::{Reading, Write};
-use snapshot::fault::{Fault, Layer, Refusal};
-use store::checks::{check_commit, check_query};
-use store::traits::{Reads, Store};
-use store::update::Update;
+use records::PerKey;
+use snapshot::{Fault, Layer, Reading, Refusal, Write};
+use store::{Reads, Store, Update, check_commit, check_query};
 
 /// In fit memory the first `kept` records are those of the store, sound and in order, with nothing after them. Other memory is
 /// left alone, and none is kept in it.

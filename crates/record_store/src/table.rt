@@ -5,8 +5,8 @@ ghost use Rattle.record_store.specs.Tables.{HoldsOnly, memory_check, table_meani
 
 use crate::slice::is_fit;
 use crate::stores::RecordStore;
-use records::record::Record;
-use snapshot::fault::{Fault, Layer, Refusal};
+use records::Record;
+use snapshot::{Fault, Layer, Refusal};
 
 pub type Table<'a> = RecordStore<&'a mut [Record]>;
 

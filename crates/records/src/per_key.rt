@@ -2,7 +2,7 @@
 ghost use Rattle.std.specs.Prelude.{◌≡◌, ℕ, ◌-◌, nat_lt};
 ghost use Rattle.records.specs.PerKeys.{number_for, with, one_less, total_of};
 
-use snapshot::limits::{KEYS, is_key};
+use snapshot::{KEYS, is_key};
 
 /// The numbers, by key.
 #[derive(Clone, Copy)]

@@ -6,9 +6,12 @@ use crate::account::Reading;
 use crate::fault::Refusal;
 use crate::limits::OPEN_END;
 
+/// The times from `low` to `high`, both included; none where low is above high, which no interval of an engine's leg is.
 #[derive(Clone, Copy, PartialEq, Eq, Debug)]
 pub struct Interval {
+    /// The first time, 0 to the open end.
     pub low: u64,
+    /// The last time, 0 to the open end.
     pub high: u64,
 }
 
@@ -38,7 +41,7 @@ impl Interval {
         })
     }
 
-    /// The times of both intervals; refused where they have none in common.
+    /// The times of both intervals. Refused: 6 they have none in common.
     pub fn join(self, other: Interval) -> Result<Interval, Refusal>
         ensures value { result ≡ joined_or_refused self other }
         ensures means { JoinedMeans self other result }

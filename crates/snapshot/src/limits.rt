@@ -5,16 +5,16 @@ ghost use Rattle.snapshot.specs.Limits.{is_time, is_timestamp, is_key, is_worker
 /// A time is 0 to `OPEN_END`, both included. The open end stands for "no end known".
 pub const OPEN_END: u64 = 281_474_976_710_656;
 
-/// Keys are numbered from 0.
+/// How many keys there are, numbered from 0.
 pub const KEYS: u8 = 64;
 
-/// Workers are numbered from 0.
+/// How many workers there are, numbered from 0.
 pub const WORKERS: u8 = 8;
 
-/// Places for open chains are numbered from 0.
+/// How many places for open chains there are, numbered from 0.
 pub const PLACES: u8 = 4;
 
-/// Legs of a chain are numbered from 0.
+/// How many legs a chain has at most, numbered from 0.
 pub const LEGS: u8 = 16;
 
 /// The most keys in a write set, and the most writes of one commit.
@@ -29,9 +29,10 @@ pub const CACHE_KEYS: usize = 8;
 /// The most notices that wait.
 pub const WAITING_NOTICES: usize = 32;
 
-/// The fewest and the most records of a table store's memory.
+/// The fewest records of a table store's memory.
 pub const LEAST_RECORDS: usize = 64;
 
+/// The most records of a table store's memory.
 pub const MOST_RECORDS: usize = 1024;
 
 /// Is this a time: 0 to the open end?

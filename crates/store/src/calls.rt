@@ -4,8 +4,7 @@ ghost use Rattle.store.specs.Calls.{answer_of, after_store_call, store_answers, 
 ghost use Rattle.store.specs.Laws.{KeepsLaws};
 
 use crate::traits::Store;
-use snapshot::account::{Reading, Write};
-use snapshot::fault::Fault;
+use snapshot::{Fault, Reading, Write};
 use std::alloc::AllocError;
 
 /// One call of a store: a value and no closure, so that the laws can speak of any list of calls.

@@ -7,10 +7,7 @@ ghost use Rattle.store.specs.Checking.{Checked};
 ghost use Rattle.store.specs.Meaning.{fit_writes, issued, in_range, store_fault};
 
 use crate::update::Update;
-use snapshot::account::Write;
-use snapshot::fault::{Fault, Layer, Refusal};
-use snapshot::limits::{OPEN_END, WRITE_KEYS, is_key, is_time};
-use snapshot::writes::are_rising;
+use snapshot::{Fault, Layer, OPEN_END, Refusal, WRITE_KEYS, Write, are_rising, is_key, is_time};
 
 /// Refused where there is no such key or time.
 pub fn check_query(key: u8, time: u64) -> Result<(), Fault>

@@ -4,8 +4,7 @@ ghost use Rattle.std.specs.Prelude.{◌≡◌, ℕ, ◌≤◌, OnErr};
 ghost use Rattle.snapshot.specs.Limits.{key_count};
 ghost use Rattle.store.specs.Meaning.{Meaning, version_answer, commit_answer, after_commit, after_prune};
 
-use snapshot::account::{Reading, Write};
-use snapshot::fault::Fault;
+use snapshot::{Fault, Reading, Write};
 
 /// What can be asked of a store. Neither question changes it.
 pub trait Reads {

@@ -2,7 +2,7 @@
 ghost use Rattle.std.specs.Prelude.{◌≡◌, true};
 ghost use Rattle.store.specs.Meaning.{fit_writes};
 
-use snapshot::account::Write;
+use snapshot::Write;
 
 /// Writes that are fit, and the timestamp that they get.
 #[derive(Clone, Copy)]

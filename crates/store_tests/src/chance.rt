@@ -2,10 +2,9 @@
 //! keys, now and then far off or unfit.
 ghost use Rattle.std.specs.Prelude.{◌<◌};
 
-use snapshot::account::Write;
-use snapshot::limits::OPEN_END;
+use snapshot::{OPEN_END, Write};
 use std::alloc::{AllocError, Global};
-use store::calls::StoreCall;
+use store::StoreCall;
 
 // A linear congruential generator.
 #[derive(Drop)]

@@ -10,14 +10,11 @@ mod plain_table;
 mod tests;
 
 use chance::Chance;
-use newest_store::newest::Newest;
-use snapshot::account::Reading;
-use snapshot::fault::Fault;
+use newest_store::Newest;
+use snapshot::{Fault, Reading};
 use std::fmt;
-use store::calls::{StoreAnswer, perform};
-use store::traits::{Reads, Store};
-use table_store::record::{NO_RECORD, Record};
-use table_store::table::Table;
+use store::{Reads, Store, StoreAnswer, perform};
+use table_store::{NO_RECORD, Record, Table};
 
 // One run on a new store: so many hundreds of calls, of which one in `prunes` is a prune.
 #[derive(Clone, Copy)]

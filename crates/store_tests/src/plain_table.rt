@@ -1,17 +1,12 @@
 //! Tables against a plain list of records: after each of many calls the answer and the whole memory are compared with what the
 //! rules make of the list, and after each prune every version that the table can be asked for.
 use crate::chance::Chance;
-use snapshot::account::{NO_WRITE, Reading, Write};
-use snapshot::fault::{Fault, Layer, Refusal};
-use snapshot::limits::{KEYS, LEAST_RECORDS, MOST_RECORDS, OPEN_END, WRITE_KEYS};
+use snapshot::{Fault, KEYS, LEAST_RECORDS, Layer, MOST_RECORDS, NO_WRITE, OPEN_END, Reading, Refusal, WRITE_KEYS, Write};
 use std::alloc::{AllocError, Global};
 use std::process::Abort;
 use std::test::Fail;
-use store::calls::{StoreAnswer, StoreCall, perform};
-use store::traits::Reads;
-use table_store::record::{NO_RECORD, Record};
-use table_store::runs::run_in;
-use table_store::table::Table;
+use store::{Reads, StoreAnswer, StoreCall, perform};
+use table_store::{NO_RECORD, Record, Table, run_in};
 
 // What stands in memory before a table is made in it.
 const USED: Record = Record {

@@ -1,17 +1,13 @@
 //! Tests of both stores: their answers to lists of calls, every refusal with its number and what its fault names, the order
 //! of checks, depth, capacity and prunes, and a table's memory record by record.
-use newest_store::newest::Newest;
-use snapshot::account::Write;
-use snapshot::fault::{Fault, Layer};
-use snapshot::limits::{KEYS, OPEN_END};
+use newest_store::Newest;
+use snapshot::{Fault, KEYS, Layer, OPEN_END, Write};
 use std::alloc::{AllocError, Global};
 use std::fmt::Display;
 use std::process::Abort;
 use std::test::Fail;
-use store::calls::{StoreAnswer, StoreCall, run};
-use store::traits::{Reads, Store};
-use table_store::record::{NO_RECORD, Record};
-use table_store::table::Table;
+use store::{Reads, Store, StoreAnswer, StoreCall, run};
+use table_store::{NO_RECORD, Record, Table};
 
 // The last timestamp that a store can issue.
 const LAST_TIME: u64 = 281_474_976_710_655;

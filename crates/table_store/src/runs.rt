@@ -9,7 +9,7 @@ ghost use Rattle.record_store.specs.Tables.{HoldsOnly, capacity_of};
 use crate::record::Record;
 use crate::table::Table;
 use std::alloc::AllocError;
-use store::calls::{StoreAnswer, StoreCall, run};
+use store::{StoreAnswer, StoreCall, run};
 
 /// Makes a new table in this memory, performs the calls on it in order, adds their answers to the list, and lets the table go. Fit
 /// memory then holds the versions that are kept, and nothing else; unfit memory is left alone. The only error is want of memory

@@ -3,7 +3,7 @@ use Rattle.std.proofs.Common.{◌≡◌, ◌++◌, MatchResult, refl, ap, subst,
 use Rattle.std.proofs.lemmas.Result.{MatchResult-weaker}
 use Rattle.engine.specs.Performing.{engine_after_calls, answers_to}
 use Rattle.engine.proofs.TraceLemmas.{run_keeps_law}
-use Rattle.engine.proofs.run.run_over.Goals as goal
+use Rattle.engine.proofs.runs.run_over.Goals as goal
 
 pub returns-clause-answers : goal.returns-clause-answers
 returns-clause-answers g c =

@@ -1,7 +1,7 @@
 use Rattle.std.proofs.Common.{rules}
 use Rattle.snapshot.specs.Finding.{FirstMeans}
 use Rattle.snapshot.proofs.Firsts.{first_is}
-use Rattle.snapshot.proofs.find.find.Goals as goal
+use Rattle.snapshot.proofs.keyed.find.Goals as goal
 
 pub returns-clause-value : goal.returns-clause-value
 returns-clause-value g c =

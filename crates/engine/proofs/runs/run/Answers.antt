@@ -2,7 +2,7 @@ use Rattle.std.proofs.Common.{ap, ◌∙◌}
 use Rattle.std.proofs.lemmas.Result.{MatchResult-weaker}
 use Rattle.engine.specs.Performing.{engine_after_calls}
 use Rattle.engine.proofs.TraceLemmas.{run_keeps_law}
-use Rattle.engine.proofs.run.run.Goals as goal
+use Rattle.engine.proofs.runs.run.Goals as goal
 
 pub returns-clause-law : goal.returns-clause-law
 returns-clause-law g c =

@@ -8,10 +8,10 @@ ghost use Rattle.engine.specs.Performing.{engine_after_calls, answers_to};
 use crate::answer::Answer;
 use crate::engine::Engine;
 use crate::state::State;
-use engine_model::calls::Call;
-use snapshot::fault::EngineFault;
+use engine_model::Call;
+use snapshot::EngineFault;
 use std::alloc::AllocError;
-use store::traits::Store;
+use store::Store;
 
 /// Performs the calls in order on a new engine over the store, adds their answers to the list, and hands back the engine.
 /// Succeeds wherever the list has room for the answers; else it may fail, for want of memory, and then no call has been

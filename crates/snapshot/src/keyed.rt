@@ -8,11 +8,12 @@ use crate::account::{ChainReading, Write};
 pub trait Keyed<K> {
     ghost named: { Self → K → Bool };
 
+    /// Has the record this key?
     fn has_key(&self, key: K) -> bool
         ensures { result ≡ named self.now key };
 }
 
-/// The place of the first record with this key, if there is one.
+/// The place, from 0, of the first record with this key, if there is one.
 pub fn find<K: Copy, T: Keyed<K>>(records: &[T], key: K) -> Option<usize>
     ensures value { result ≡ first_with (λ x. T.named x key) records.now }
     ensures means { FirstMeans (λ x. T.named x key) records.now result }

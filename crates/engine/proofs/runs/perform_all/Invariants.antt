@@ -2,7 +2,7 @@
 use Rattle.std.proofs.Common.{◌≡◌, ◌+◌, ◌≤◌, ◌++◌, length, drop, vec_items, vec_len, vec_capacity}
 use Rattle.engine.specs.Engines.{engine_over}
 use Rattle.engine.specs.Performing.{engine_after_calls, answers_to}
-use Rattle.engine.proofs.run.perform_all.Given as goal
+use Rattle.engine.proofs.runs.perform_all.Given as goal
 
 abbrev pub invariant-loop-call : goal.invariant-loop-call
 invariant-loop-call g l =

@@ -1,3 +1,0 @@
-//! The table.
-
-pub use record_store::table::Table;
