@@ -2,7 +2,10 @@
 
 use engine::Engine;
 use newest_store::Newest;
-use snapshot::{AccountHead, CHAIN_READINGS, ChainReading, EngineFault, MOST_RECORDS, NO_READING, NO_WRITE, WRITE_KEYS, Write};
+use snapshot::{
+    AccountHead, CHAIN_READINGS, ChainReading, EngineFault, MOST_RECORDS, NO_READING, NO_WRITE,
+    WRITE_KEYS, Write,
+};
 use store::Store;
 use table_store::{NO_RECORD, Table};
 
@@ -11,12 +14,19 @@ use table_store::{NO_RECORD, Table};
 #[repr(C)]
 #[derive(Clone, Copy)]
 pub struct NumberedCall {
+    /// Which call, from 0 in the order of the engine's methods.
     pub kind: u8,
+    /// The place that it names.
     pub place: u8,
+    /// The leg that it names; of a join the first.
     pub leg: u8,
+    /// A second leg or a first worker.
     pub other: u8,
+    /// A worker or a key.
     pub last: u8,
+    /// The value of a write.
     pub value: u32,
+    /// A clock reading, a position or a horizon.
     pub number: u64,
 }
 

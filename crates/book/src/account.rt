@@ -15,9 +15,13 @@ use snapshot::{
 /// and its writes.
 #[derive(Clone, Copy, PartialEq, Eq, Debug)]
 pub struct Account<'a> {
+    /// The final interval of the chain.
     pub interval: Interval,
+    /// The time of its writes; 0 if it wrote nothing.
     pub timestamp: u64,
+    /// Its readings in order, at most 32 in a lawful account.
     pub readings: &'a [ChainReading],
+    /// Its writes in rising order of their keys, at most 8 in a lawful account.
     pub writes: &'a [Write],
 }
 

@@ -45,7 +45,9 @@ fn read_head(book: &[u8], start: usize) -> Result<AccountAt, BookFault>
 /// number of the refusal and the place of the refused account.
 #[derive(Clone, Copy)]
 pub struct Listing<'a> {
+    /// The five numbers of each account.
     pub heads: &'a [AccountHead],
+    /// The fault of the account at which the reading ended; none at the end of the book.
     pub ending: Option<BookFault>,
 }
 

@@ -22,7 +22,9 @@ use std::marker::Model;
 /// An account's five numbers, and the place after its bytes.
 #[derive(Clone, Copy, PartialEq, Eq, Debug)]
 pub struct AccountAt {
+    /// The account's five numbers.
     pub head: AccountHead,
+    /// The byte place after the account, from the start of the book.
     pub end: usize,
 }
 

@@ -75,14 +75,19 @@ impl fmt::Debug for CommittedAccount {
     }
 }
 
-/// What an accepted call answers: begin, hand and join the new leg, fork the two new legs, read a value, count how many notices
-/// wait and how many were lost, commit the account; the others that they are done.
+/// What an accepted call answers.
 #[derive(PartialEq, Debug, Drop)]
 pub enum Answer {
+    /// Begin, hand and join: the new leg's number, 0 to 15.
     Leg(u8),
+    /// Fork: the two new legs' numbers, the first worker's first.
     Legs(u8, u8),
+    /// Read: the value.
     Value(u32),
+    /// Count: how many notices wait, 0 to 32, and how many were lost.
     Count(usize, u64),
+    /// Commit: the account.
     Account(CommittedAccount),
+    /// Write, abandon, deliver, discard and prune: it is done.
     Done,
 }

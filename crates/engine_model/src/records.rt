@@ -6,22 +6,29 @@ use snapshot::{ChainReading, Keyed, Reading};
 /// What a worker's cache holds of a key.
 #[derive(Clone, Copy, Default)]
 pub struct CacheEntry {
+    /// The key, 0 to 63.
     pub key: u8,
+    /// What is held of it.
     pub reading: Reading,
 }
 
 /// A chain's reading, and the leg that made it.
 #[derive(Clone, Copy, Default)]
 pub struct LegReading {
+    /// The leg, 0 to 15.
     pub leg: u8,
+    /// What it read.
     pub made: ChainReading,
 }
 
 /// Tells a worker of a new version of a key that its cache holds.
 #[derive(Clone, Copy, Default)]
 pub struct Notice {
+    /// The worker that is told, 0 to 7.
     pub worker: u8,
+    /// The key, 0 to 63.
     pub key: u8,
+    /// The new version: its timestamp is also its promise.
     pub reading: Reading,
 }
 
@@ -37,7 +44,9 @@ impl Keyed<u8> for CacheEntry {
 /// The leg that made a reading, and the key that it read.
 #[derive(Clone, Copy)]
 pub struct LegAndKey {
+    /// The leg, 0 to 15.
     pub leg: u8,
+    /// The key, 0 to 63.
     pub key: u8,
 }
 

@@ -6,6 +6,7 @@ ghost use Rattle.engine_parts.specs.Lists.{elements_of};
 
 use snapshot::{Keyed, find};
 
+/// At most `N` entries, the first `len` of the array; a length beyond `N` means all of it.
 #[derive(Clone, Copy)]
 pub struct BoundedList<T, const N: usize> {
     items: [T; N],

@@ -12,7 +12,7 @@ use store::{Reads, Store, Update, Version, check_commit, check_query};
 #[derive(Drop)]
 pub struct Newest {
     last: u64,
-    /// `as`, since the length of an array calls no function
+    // `as`, since the length of an array calls no function
     versions: [Version; KEYS as usize],
 }
 

@@ -8,6 +8,8 @@ use crate::stores::RecordStore;
 use records::Record;
 use snapshot::{Fault, Layer, Refusal};
 
+/// A table store: versions of 64 keys in records that a caller lends, at most 16 of each key, and as many in all as there are
+/// records.
 pub type Table<'a> = RecordStore<&'a mut [Record]>;
 
 impl<'a> RecordStore<&'a mut [Record]> {

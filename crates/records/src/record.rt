@@ -4,8 +4,11 @@
 #[derive(Clone, Copy, PartialEq, Eq, Debug)]
 #[repr(C)]
 pub struct Record {
+    /// The time of the commit that wrote it, 0 for a new store's.
     pub timestamp: u64,
+    /// The value, 0 to 2^32 - 1.
     pub value: u32,
+    /// The key, 0 to 63.
     pub key: u8,
 }
 

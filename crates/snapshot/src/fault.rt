@@ -9,46 +9,67 @@ use thiserror::Error;
 /// The reasons for which a call is refused, in the order of their numbers. Shown as a sentence with the number.
 #[derive(Clone, Copy, PartialEq, Eq, Debug, Error)]
 pub enum Refusal {
+    /// A place, leg, worker, key or time is out of its range.
     #[error("refused with {}: a place, leg, worker, key or time is out of range", self.number())]
     OutOfRange = 1,
+    /// Begin: a chain is open at this place.
     #[error("refused with {}: a chain is open at this place", self.number())]
     PlaceOccupied = 2,
+    /// No chain is open at this place, or this leg of it is not open.
     #[error("refused with {}: no chain is open at this place, or this leg of it is not open", self.number())]
     NotOpen = 3,
+    /// Join: one leg is named twice.
     #[error("refused with {}: a join names one leg twice", self.number())]
     SameLeg = 4,
+    /// Hand, fork, join: a leg would be numbered above 15.
     #[error("refused with {}: a chain has at most 16 legs", self.number())]
     TooManyLegs = 5,
+    /// Join: the intervals of the two legs have no time in common.
     #[error("refused with {}: the readings of the two legs were never true together", self.number())]
     IntervalsApart = 6,
+    /// Write, join: the write set would pass eight keys.
     #[error("refused with {}: a write set has at most 8 keys", self.number())]
     WriteSetFull = 7,
+    /// Read: cache or store is needed for a 33rd reading.
     #[error("refused with {}: a chain has at most 32 readings", self.number())]
     ReadingsFull = 8,
+    /// Commit: another leg of the chain is open.
     #[error("refused with {}: another leg of the chain is open", self.number())]
     AnotherLegOpen = 9,
+    /// A list or buffer of the caller's is too short.
     #[error("refused with {}: a list or buffer of the caller is too short", self.number())]
     TooShort = 10,
+    /// A store's commit: not one to eight writes with rising keys of 0 to 63.
     #[error("refused with {}: a commit takes 1 to 8 writes with rising keys of 0 to 63", self.number())]
     UnfitWrites = 11,
+    /// Commit: the clock reading is above 2^48 - 1.
     #[error("refused with {}: the clock reading is above 2^48 - 1", self.number())]
     ClockTooHigh = 12,
+    /// Commit: the last timestamp is 2^48 - 1 already.
     #[error("refused with {}: the last timestamp is 2^48 - 1, and there is none later", self.number())]
     NoTimeLeft = 13,
+    /// Commit: the store would keep more versions than it has room for.
     #[error("refused with {}: the store has no room for more versions", self.number())]
     CapacityExceeded = 14,
+    /// Read: the store has dropped the version that was current at the end of the interval.
     #[error("refused with {}: the store has dropped the version that is asked for", self.number())]
     VersionGone = 15,
+    /// Deliver, discard: no notice waits at this position.
     #[error("refused with {}: no notice waits at this position", self.number())]
     NoSuchNotice = 16,
+    /// A table is given fewer than 64 or more than 1,024 records.
     #[error("refused with {}: a table takes 64 to 1024 records", self.number())]
     UnfitMemory = 17,
+    /// The book: the account is cut short.
     #[error("refused with {}: the account is cut short", self.number())]
     AccountCut = 18,
+    /// The book: the account does not begin with the mark C3 3C.
     #[error("refused with {}: the account does not begin with the mark C3 3C", self.number())]
     WrongMark = 19,
+    /// The book: the last byte is not the exclusive-or of the others.
     #[error("refused with {}: the last byte of the account is not the exclusive-or of the others", self.number())]
     WrongLastByte = 20,
+    /// The book: the account breaks a rule of lawful accounts.
     #[error("refused with {}: the account breaks a rule of lawful accounts", self.number())]
     Unlawful = 21,
 }

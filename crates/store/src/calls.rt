@@ -10,18 +10,26 @@ use std::alloc::AllocError;
 /// One call of a store: a value and no closure, so that the laws can speak of any list of calls.
 #[derive(Clone, Copy)]
 pub enum StoreCall<'a> {
+    /// Asks for the last timestamp.
     Last,
+    /// Asks for the version of a key at a time.
     Version { key: u8, time: u64 },
+    /// Commits writes at a clock reading.
     Commit { clock: u64, writes: &'a [Write] },
+    /// Drops what was over before the horizon.
     Prune { horizon: u64 },
 }
 
 /// What the call of the same name answered.
 #[derive(Clone, Copy, PartialEq, Eq, Debug)]
 pub enum StoreAnswer {
+    /// The last timestamp.
     Last(u64),
+    /// The version with its promise, or why it is refused.
     Version(Result<Reading, Fault>),
+    /// The timestamp of the writes, or why they are refused.
     Commit(Result<u64, Fault>),
+    /// It is done.
     Prune,
 }
 

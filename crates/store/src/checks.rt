@@ -9,7 +9,7 @@ ghost use Rattle.store.specs.Meaning.{fit_writes, issued, in_range, store_fault}
 use crate::update::Update;
 use snapshot::{Fault, Layer, OPEN_END, Refusal, WRITE_KEYS, Write, are_rising, is_key, is_time};
 
-/// Refused where there is no such key or time.
+/// Refused: 1 key (0 to 63) or time (0 to 2^48) out of range.
 pub fn check_query(key: u8, time: u64) -> Result<(), Fault>
     ensures { result ≡ in_range key time }
 {
@@ -45,7 +45,8 @@ pub fn issue(clock: u64, last: u64) -> Result<u64, Fault>
     Ok(clock.max(last + 1))
 }
 
-/// The writes with the timestamp that they get, refused where the writes are unfit or no timestamp can be issued.
+/// The writes with the timestamp that they get. Refused: 11 the writes are unfit, 12 the clock reading is above 2^48 - 1, 13 the
+/// last timestamp is 2^48 - 1 or more.
 pub fn check_commit<'a>(clock: u64, writes: &'a [Write], last: u64) -> Result<Update<'a>, Fault>
     ensures { Checked clock writes.now last result }
 {

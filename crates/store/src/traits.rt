@@ -18,19 +18,20 @@ pub trait Reads {
         ensures { result ≡ (meaning self.now).last };
 
     /// The newest kept version of the key that is not later than the time, and up to when it is known to be current.
-    /// Refused where key or time is out of range, or where every kept version is later.
+    /// Refused: 1 key (0 to 63) or time (0 to 2^48) out of range, 15 every kept version is later.
     fn version(&self, key: u8, time: u64) -> Result<Reading, Fault>
         ensures { result ≡ version_answer (meaning self.now) key time };
 }
 
 /// A store that can be written to, and pruned of old versions.
 pub trait Store: Reads {
-    // the most versions that a store of this kind keeps of one key
+    // what DEPTH is in the clauses
     ghost DEPTH: { ℕ };
 
     // it is 1 or more
     ghost not_none: { 1 ≤ DEPTH };
 
+    /// The most versions that a store of this kind keeps of one key, 1 or more.
     const DEPTH: usize;
 
     // what the memory that a caller lends to a store of this kind holds
@@ -47,7 +48,8 @@ pub trait Store: Reads {
     ghost Holds: { Loan → Meaning → Memory → Type 0 };
 
     /// Gives each written key a version at one new timestamp, and answers the timestamp. A refused commit leaves the
-    /// store's very value as it was.
+    /// store's very value as it was. Refused: 11 not 1 to 8 writes with rising keys of 0 to 63, 12 the clock reading is above
+    /// 2^48 - 1, 13 no time is left, 14 there is no room for more versions.
     fn commit(&mut self, clock: u64, writes: &[Write]) -> Result<u64, Fault>
         ensures answer { result ≡ commit_answer DEPTH clock writes.now (Self.Reads.meaning self.old) }
         ensures after { Self.Reads.meaning self.new ≡ after_commit DEPTH clock writes.now (Self.Reads.meaning self.old) }
