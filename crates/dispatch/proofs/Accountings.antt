@@ -1,0 +1,77 @@
+-- What an account lists was so at every time from its low to its high: its readings are true of the history from their timestamps
+-- to their promises, and low and high lie between these.
+use Rattle.std.proofs.Common.{◌≡◌, ℕ, ◌≤◌, true, ◌&&◌, List, [], ◌∷◌, length, drop, Ok, Err, Result, IfOk, inr, refl, sym, subst, ap, arith}
+use Rattle.std.specs.List.{AllByRecursion, list_all}
+use Rattle.std.proofs.lemmas.Bool.{and_parts}
+use Rattle.std.proofs.lemmas.List.{length-append}
+use Rattle.snapshot.specs.Accounts.{Account, head_of, lawful, few_enough, sound_reading, rising_from, agreed_ends, sound_timestamp}
+use Rattle.snapshot.specs.Intervals.{Current}
+use Rattle.snapshot.specs.Limits.{chain_readings, write_keys}
+use Rattle.snapshot.specs.Overwriting.{overwritten}
+use Rattle.snapshot.specs.declared.account.AccountHead.{AccountHead}
+use Rattle.snapshot.specs.declared.account.ChainReading.{ChainReading}
+use Rattle.snapshot.specs.declared.account.Write.{Write}
+use Rattle.snapshot.specs.declared.fault.EngineFault.{EngineFault}
+use Rattle.snapshot.proofs.Agreement.{ends_agree}
+use Rattle.store.specs.Laws.{version_read}
+use Rattle.store.specs.declared.version.Version.{Version}
+use Rattle.engine_model.specs.Engines.{Engine}
+use Rattle.engine_model.specs.Law.{AccountLaw, TrueOf, ValueAt}
+use Rattle.engine_model.specs.Rules.{Rules}
+use Rattle.engine_model.specs.Traces.{Trace, NewStore}
+use Rattle.engine.specs.Commits.{answer_and_lists}
+use Rattle.engine.specs.Engines.{CallersLists}
+use Rattle.engine.specs.EngineLaw.{AddsAccount, InEveryTrace}
+use Rattle.dispatch.specs.Accounting.{Accounted, AccountedOnceThereIsRoom, Held, pruned}
+
+-- a lawful account goes from the greatest timestamp to the least promise
+agreed : (a : Account) → lawful a ≡ true → agreed_ends a.low a.high a.readings ≡ true
+agreed a e =
+    let sound = few_enough a.readings a.writes && list_all sound_reading a.readings && rising_from 0 a.writes in
+    let ends = agreed_ends a.low a.high a.readings in
+    (and_parts sound ends (and_parts (sound && ends) (sound_timestamp a.timestamp a.readings a.writes) e).0).1
+
+-- true readings that are known to be current at a time give their values at it
+values : (history : ℕ → List Version) (s : ℕ) (rs : List ChainReading) → AllByRecursion (TrueOf history) rs →
+    AllByRecursion (λ r. Current s r.reading) rs → AllByRecursion (λ r. ValueAt s r.reading.value (history r.key)) rs
+values history s [] all current = tt
+values history s (r ∷ rs) all current =
+    ((version_read r.reading, all.0 s current.0, refl), values history s rs all.1 current.1)
+
+held : (rules : Rules) (store : NewStore) (history : ℕ → List Version) (before : Trace) (p l clock : ℕ) (a : Account) →
+    AccountLaw rules store history before p l clock a → Held history a
+held rules store history before p l clock a law s lies =
+    values history s a.readings law.true_readings ((ends_agree a (agreed a law.for_the_book)).when_in s lies)
+
+-- an account that keeps the law in every trace
+pub accounted : (depth : ℕ) (before : Engine) (p l clock : ℕ) (a : Account) →
+    InEveryTrace depth before (λ store trace. AddsAccount store trace p l clock chain_readings write_keys a) →
+    Accounted depth before p l clock a
+accounted depth before p l clock a law store trace same led =
+    let added = law store trace same led in
+    (added, held _ store _ trace p l clock a added)
+
+-- an account of a commit that was accepted once the store was pruned
+pub once_pruned :
+    (depth : ℕ) (before after : Engine) (p l clock horizon : ℕ) (q : Result Account EngineFault) → pruned horizon before ≡ after →
+    IfOk q (λ a. Accounted depth after p l clock a) → IfOk q (λ a. AccountedOnceThereIsRoom depth before p l clock horizon a)
+once_pruned depth before after p l clock horizon (Ok a) is all =
+    inr (subst (λ e. Accounted depth e p l clock a) (sym is) all)
+once_pruned depth before after p l clock horizon (Err f) is all = tt
+
+-- Lists that a commit has filled are as long as its answer says, or longer.
+abbrev answered : AccountHead → Result AccountHead EngineFault → AccountHead
+answered h (Ok x) = x
+answered h (Err f) = h
+
+pub lists_fit :
+    (rs : List ChainReading) (ws : List Write) (d : Result Account EngineFault) (h : AccountHead) (lists : CallersLists) →
+    (Ok h, lists) ≡ answer_and_lists rs ws d → (h.readings ≤ length lists.0) × (h.writes ≤ length lists.1)
+lists_fit rs ws (Ok a) h lists is =
+    let numbers : h ≡ head_of a = ap (λ t. answered h t.0) is in
+    let readings : lists.0 ≡ overwritten a.readings rs = ap (λ t. t.1.0) is in
+    let writes : lists.1 ≡ overwritten a.writes ws = ap (λ t. t.1.1) is in (
+      omega (arith, ap (λ x. x.readings) numbers, ap length readings, length-append a.readings (drop (length a.readings) rs)),
+      omega (arith, ap (λ x. x.writes) numbers, ap length writes, length-append a.writes (drop (length a.writes) ws)),
+    )
+lists_fit rs ws (Err f) h lists is = absurd (cc (ap (λ t. t.0) is))

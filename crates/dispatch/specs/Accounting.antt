@@ -1,0 +1,35 @@
+-- What the account of a committed chain tells, whatever calls came before.
+use Rattle.std.specs.Prelude.{ℕ, List, ◌∷◌, ◌⊎◌, Ok}
+use Rattle.std.specs.List.{AllByRecursion}
+use Rattle.snapshot.specs.Accounts.{Account}
+use Rattle.snapshot.specs.Intervals.{Lies, from_to}
+use Rattle.snapshot.specs.Limits.{chain_readings, write_keys}
+use Rattle.store.specs.Meaning.{after_prune}
+use Rattle.store.specs.declared.version.Version.{Version}
+use Rattle.engine_model.specs.Engines.{Engine}
+use Rattle.engine_model.specs.Law.{ValueAt}
+use Rattle.engine_model.specs.Traces.{event, history_of}
+use Rattle.engine_model.specs.declared.calls.Call.TheVariants as call
+use Rattle.engine.specs.EngineLaw.{AddsAccount, InEveryTrace}
+
+-- at every time from the account's low to its high, each value in its readings was the one that the history held for the key
+abbrev pub Held : (ℕ → List Version) → Account → Type 0
+Held history a =
+    (s : ℕ) → Lies s (from_to a.low a.high) → AllByRecursion (λ r. ValueAt s r.reading.value (history r.key)) a.readings
+
+-- The chain at place p of this engine was committed by leg l at this clock reading, with this account. Whatever calls led to the
+-- engine: with this one the account keeps the law of traces, and what it lists was so at every time that it names.
+abbrev pub Accounted : (depth : ℕ) → Engine → (p l clock : ℕ) → Account → Type 0
+Accounted depth before p l clock a =
+    InEveryTrace depth before (λ store trace.
+    AddsAccount store trace p l clock chain_readings write_keys a
+    × Held (history_of (event (call.Commit p l clock chain_readings write_keys) (Ok a) ∷ trace)) a)
+
+-- the engine once its store was pruned up to a horizon
+abbrev pub pruned : ℕ → Engine → Engine
+pruned h e = record { places = e.places; caches = e.caches; notices = e.notices; store = after_prune h e.store }
+
+-- that, or the same once the store was pruned
+abbrev pub AccountedOnceThereIsRoom : (depth : ℕ) → Engine → (p l clock horizon : ℕ) → Account → Type 0
+AccountedOnceThereIsRoom depth before p l clock horizon a =
+    Accounted depth before p l clock a ⊎ Accounted depth (pruned horizon before) p l clock a
