@@ -1,6 +1,6 @@
 -- What an account lists was so at every time from its low to its high: its readings are true of the history from their timestamps
 -- to their promises, and low and high lie between these.
-use Rattle.std.proofs.Common.{◌≡◌, ℕ, ◌≤◌, true, ◌&&◌, List, [], ◌∷◌, length, drop, Ok, Err, Result, IfOk, inr, refl, sym, subst, ap, arith}
+use Rattle.std.proofs.Common.{◌≡◌, ℕ, ◌≤◌, true, ◌&&◌, List, [], ◌∷◌, length, drop, Ok, Err, Result, IfOk, MatchResult, is_ok, inr, refl, sym, subst, ap, arith}
 use Rattle.std.specs.List.{AllByRecursion, list_all}
 use Rattle.std.proofs.lemmas.Bool.{and_parts}
 use Rattle.std.proofs.lemmas.List.{length-append}
@@ -51,13 +51,16 @@ accounted depth before p l clock a law store trace same led =
     let added = law store trace same led in
     (added, held _ store _ trace p l clock a added)
 
--- an account of a commit that was accepted once the store was pruned
+-- an account of a commit that was accepted once the store was pruned; its caller answers another error
 pub once_pruned :
-    (depth : ℕ) (before after : Engine) (p l clock horizon : ℕ) (q : Result Account EngineFault) → pruned horizon before ≡ after →
-    IfOk q (λ a. Accounted depth after p l clock a) → IfOk q (λ a. AccountedOnceThereIsRoom depth before p l clock horizon a)
-once_pruned depth before after p l clock horizon (Ok a) is all =
-    inr (subst (λ e. Accounted depth e p l clock a) (sym is) all)
-once_pruned depth before after p l clock horizon (Err f) is all = tt
+    {E : Type 0} (depth : ℕ) (before after : Engine) (p l clock horizon : ℕ) (q : Result Account EngineFault) (r : Result Account E)
+    (Q : EngineFault → Type 0) → MatchResult q (λ a. r ≡ Ok a) Q → is_ok r ≡ is_ok q → pruned horizon before ≡ after →
+    IfOk q (λ a. Accounted depth after p l clock a) → IfOk r (λ a. AccountedOnceThereIsRoom depth before p l clock horizon a)
+once_pruned depth before after p l clock horizon (Ok a) r Q same both is all =
+    let Room : Account → Type 0 = λ x. AccountedOnceThereIsRoom depth before p l clock horizon x in
+    subst (λ x. IfOk x Room) (sym same) (inr (subst (λ e. Accounted depth e p l clock a) (sym is) all))
+once_pruned depth before after p l clock horizon (Err f) (Ok a) Q same both is all = absurd (cc both)
+once_pruned depth before after p l clock horizon (Err f) (Err e) Q same both is all = tt
 
 -- Lists that a commit has filled are as long as its answer says, or longer.
 abbrev answered : AccountHead → Result AccountHead EngineFault → AccountHead

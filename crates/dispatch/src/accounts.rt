@@ -73,19 +73,22 @@ fn commit_once<S: Store>(
 // Commits the chain by a leg, and answers its account. Where the store has no room (14), it is pruned up to the horizon, and
 // the chain commits then: a refused commit changes nothing, and leaves the chain open.
 fn commit<S: Store>(
+    rt: &impl Print,
     engine: &mut Engine<S>,
     leg: u8,
     clock: u64,
     horizon: u64,
-) -> Result<Committed, EngineFault>
-    ensures accounted { IfOk result (λ account. AccountedOnceThereIsRoom S.Store.DEPTH (engine_of S.Reads.meaning engine.old) PLACE leg clock horizon account) }
+) -> anyhow::Result<Committed>
+    ensures { IfOk result (λ account. AccountedOnceThereIsRoom S.Store.DEPTH (engine_of S.Reads.meaning engine.old) PLACE leg clock horizon account) }
 {
     match commit_once(engine, leg, clock) {
+        Ok(committed) => Ok(committed),
         Err(EngineFault { fault, .. }) if fault.refusal == Refusal::CapacityExceeded => {
+            println!(rt; "  refused 14, and pruned up to {horizon}")?;
             engine.prune(horizon);
-            commit_once(engine, leg, clock)
+            commit_once(engine, leg, clock).map_err(mistake)
         }
-        answer => answer,
+        Err(fault) => Err(mistake(fault)),
     }
 }
 
@@ -110,6 +113,7 @@ fn add_to(book: &mut Vec<u8>, account: &Account) -> anyhow::Result<()>
 /// Commits the chain by a leg, with the store pruned up to the horizon where it has no room; adds the account to the end of the
 /// book, and answers it. An error leaves the book as it was.
 pub fn commit_to_book<S: Store>(
+    rt: &impl Print,
     engine: &mut Engine<S>,
     book: &mut Vec<u8>,
     leg: u8,
@@ -122,7 +126,7 @@ pub fn commit_to_book<S: Store>(
 {
     // first, so that no chain commits whose account finds no memory
     book.reserve(LONGEST_ACCOUNT)?;
-    let committed = commit(engine, leg, clock, horizon).map_err(mistake)?;
+    let committed = commit(rt, engine, leg, clock, horizon)?;
     add_to(book, &committed.account())?;
     Ok(committed)
 }

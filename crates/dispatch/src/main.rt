@@ -26,7 +26,7 @@ fn finish<S: Store>(
     leg: u8,
     clock: u64,
 ) -> anyhow::Result<()> {
-    let committed = commit_to_book(engine, book, leg, clock, HORIZON)?;
+    let committed = commit_to_book(rt, engine, book, leg, clock, HORIZON)?;
     let account = committed.account();
     if !account.readings.is_empty() {
         let Interval { low, high } = account.interval;
