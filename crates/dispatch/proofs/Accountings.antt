@@ -14,13 +14,15 @@ use Rattle.snapshot.specs.declared.account.Write.{Write}
 use Rattle.snapshot.specs.declared.fault.EngineFault.{EngineFault}
 use Rattle.snapshot.proofs.Agreement.{ends_agree}
 use Rattle.store.specs.Laws.{version_read}
+use Rattle.store.specs.Meaning.{Meaning}
 use Rattle.store.specs.declared.version.Version.{Version}
 use Rattle.engine_model.specs.Engines.{Engine}
 use Rattle.engine_model.specs.Law.{AccountLaw, TrueOf, ValueAt}
 use Rattle.engine_model.specs.Rules.{Rules}
 use Rattle.engine_model.specs.Traces.{Trace, NewStore}
 use Rattle.engine.specs.Commits.{answer_and_lists}
-use Rattle.engine.specs.Engines.{CallersLists}
+use Rattle.engine.specs.Engines.{CallersLists, IsCommit}
+use Rattle.engine.specs.declared.engine.Engine.{Engine as Running}
 use Rattle.engine.specs.EngineLaw.{AddsAccount, InEveryTrace}
 use Rattle.dispatch.specs.Accounting.{Accounted, AccountedOnceThereIsRoom, Held, pruned}
 
@@ -47,6 +49,7 @@ held rules store history before p l clock a law s lies =
 pub accounted : (depth : ℕ) (before : Engine) (p l clock : ℕ) (a : Account) →
     InEveryTrace depth before (λ store trace. AddsAccount store trace p l clock chain_readings write_keys a) →
     Accounted depth before p l clock a
+unfolding Accounted
 accounted depth before p l clock a law store trace same led =
     let added = law store trace same led in
     (added, held _ store _ trace p l clock a added)
@@ -62,19 +65,24 @@ once_pruned depth before after p l clock horizon (Ok a) r Q same both is all =
 once_pruned depth before after p l clock horizon (Err f) (Ok a) Q same both is all = absurd (cc both)
 once_pruned depth before after p l clock horizon (Err f) (Err e) Q same both is all = tt
 
--- Lists that a commit has filled are as long as its answer says, or longer.
+-- the lists that a commit has filled are as long as its answer says, or longer
 abbrev answered : AccountHead → Result AccountHead EngineFault → AccountHead
 answered h (Ok x) = x
 answered h (Err f) = h
 
-pub lists_fit :
+fit :
     (rs : List ChainReading) (ws : List Write) (d : Result Account EngineFault) (h : AccountHead) (lists : CallersLists) →
     (Ok h, lists) ≡ answer_and_lists rs ws d → (h.readings ≤ length lists.0) × (h.writes ≤ length lists.1)
-lists_fit rs ws (Ok a) h lists is =
+fit rs ws (Ok a) h lists is =
     let numbers : h ≡ head_of a = ap (λ t. answered h t.0) is in
     let readings : lists.0 ≡ overwritten a.readings rs = ap (λ t. t.1.0) is in
-    let writes : lists.1 ≡ overwritten a.writes ws = ap (λ t. t.1.1) is in (
-      omega (arith, ap (λ x. x.readings) numbers, ap length readings, length-append a.readings (drop (length a.readings) rs)),
-      omega (arith, ap (λ x. x.writes) numbers, ap length writes, length-append a.writes (drop (length a.writes) ws)),
-    )
-lists_fit rs ws (Err f) h lists is = absurd (cc (ap (λ t. t.0) is))
+    let writes : lists.1 ≡ overwritten a.writes ws = ap (λ t. t.1.1) is in
+    (omega (arith, ap (λ x. x.readings) numbers, ap length readings, length-append a.readings (drop (length a.readings) rs)),
+    omega (arith, ap (λ x. x.writes) numbers, ap length writes, length-append a.writes (drop (length a.writes) ws)))
+fit rs ws (Err f) h lists is = absurd (cc (ap (λ t. t.0) is))
+
+pub lists_fit :
+    {S : Type 0} (meaning : S → Meaning) (depth p l clock r w : ℕ) (before after : Running S) (lists filled : CallersLists) (h : AccountHead) →
+    IsCommit meaning depth p l clock r w before lists (Ok h) filled after →
+    (h.readings ≤ length filled.0) × (h.writes ≤ length filled.1)
+lists_fit meaning depth p l clock r w before after lists filled h is = fit _ _ _ h filled (ap (λ x. x.0) is)

@@ -19,7 +19,7 @@ Held history a =
 
 -- The chain at place p of this engine was committed by leg l at this clock reading, with this account. Whatever calls led to the
 -- engine: with this one the account keeps the law of traces, and what it lists was so at every time that it names.
-abbrev pub Accounted : (depth : ℕ) → Engine → (p l clock : ℕ) → Account → Type 0
+unfoldable pub Accounted : (depth : ℕ) → Engine → (p l clock : ℕ) → Account → Type 0
 Accounted depth before p l clock a =
     InEveryTrace depth before (λ store trace.
     AddsAccount store trace p l clock chain_readings write_keys a

@@ -51,7 +51,7 @@ impl Committed {
 }
 
 // Commits the chain by a leg, and answers its account.
-#[tactic(auto, using(crate::proofs::Accountings::accounted))]
+#[tactic(auto, using(crate::proofs::Accountings::accounted, crate::proofs::Accountings::lists_fit))]
 fn commit_once<S: Store>(
     engine: &mut Engine<S>,
     leg: u8,
