@@ -76,9 +76,10 @@ fit :
 fit rs ws (Ok a) h lists is =
     let numbers : h ≡ head_of a = ap (λ t. answered h t.0) is in
     let readings : lists.0 ≡ overwritten a.readings rs = ap (λ t. t.1.0) is in
-    let writes : lists.1 ≡ overwritten a.writes ws = ap (λ t. t.1.1) is in
-    (omega (arith, ap (λ x. x.readings) numbers, ap length readings, length-append a.readings (drop (length a.readings) rs)),
-    omega (arith, ap (λ x. x.writes) numbers, ap length writes, length-append a.writes (drop (length a.writes) ws)))
+    let writes : lists.1 ≡ overwritten a.writes ws = ap (λ t. t.1.1) is in (
+      omega (arith, ap (λ x. x.readings) numbers, ap length readings, length-append a.readings (drop (length a.readings) rs)),
+      omega (arith, ap (λ x. x.writes) numbers, ap length writes, length-append a.writes (drop (length a.writes) ws)),
+    )
 fit rs ws (Err f) h lists is = absurd (cc (ap (λ t. t.0) is))
 
 pub lists_fit :

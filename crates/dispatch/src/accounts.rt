@@ -84,7 +84,7 @@ fn commit<S: Store>(
     match commit_once(engine, leg, clock) {
         Ok(committed) => Ok(committed),
         Err(EngineFault { fault, .. }) if fault.refusal == Refusal::CapacityExceeded => {
-            println!(rt; "  refused 14, and pruned up to {horizon}")?;
+            println!(rt; "  refused 14: pruned up to {horizon}")?;
             engine.prune(horizon);
             commit_once(engine, leg, clock).map_err(mistake)
         }

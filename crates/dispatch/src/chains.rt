@@ -1,4 +1,6 @@
 //! Chains of calls on the engine. Each answers the leg by which it is to commit.
+ghost use Rattle.std.specs.Prelude.{◌≡◌, ◌<◌, ◌||◌, ◌==◌};
+ghost use Rattle.snapshot.specs.Refusals.{refusal_number};
 
 use crate::site::{
     ATTEMPTS, FRONT, KEYHOLDER, KEYHOLDER_WORKER, ORDER, PLACE, REPORT, SET_RECORD, SET_WORKER,
@@ -6,22 +8,21 @@ use crate::site::{
 };
 use anyhow::{anyhow, bail};
 use engine::engine::Engine;
-use snapshot::account::Write;
 use snapshot::fault::{EngineFault, Refusal};
 use snapshot::limits::WORKERS;
 use store::traits::Store;
 
-/// Writes what a sensor or the staff tell.
-pub(crate) fn note<S: Store>(engine: &mut Engine<S>, writes: &[Write]) -> Result<u8, EngineFault> {
+/// Writes what a sensor or the staff tell: keys with their values.
+pub fn note<S: Store>(engine: &mut Engine<S>, writes: &[(u8, u32)]) -> Result<u8, EngineFault> {
     let leg = engine.begin(PLACE, FRONT)?;
-    for write in writes {
-        engine.write(PLACE, leg, write.key, write.value)?;
+    for (key, value) in writes {
+        engine.write(PLACE, leg, *key, *value)?;
     }
     Ok(leg)
 }
 
 /// Looks at the zone on one worker, and then at the set record on another.
-pub(crate) fn look<S: Store>(engine: &mut Engine<S>) -> Result<u8, EngineFault> {
+pub fn look<S: Store>(engine: &mut Engine<S>) -> Result<u8, EngineFault> {
     let first = engine.begin(PLACE, ZONE_WORKER)?;
     engine.read(PLACE, first, ZONE)?;
     let second = engine.hand(PLACE, first, SET_WORKER)?;
@@ -31,7 +32,7 @@ pub(crate) fn look<S: Store>(engine: &mut Engine<S>) -> Result<u8, EngineFault> 
 
 /// Sends the guard to the door at which somebody is: one worker looks at the zone, another at who the keyholder is, and the
 /// order is written where both were true at one time.
-pub(crate) fn order<S: Store>(engine: &mut Engine<S>, attempt: u8) -> Result<u8, EngineFault> {
+pub fn order<S: Store>(engine: &mut Engine<S>, attempt: u8) -> Result<u8, EngineFault> {
     let zone_worker = on_attempt(ZONE_WORKER, attempt);
     let keyholder_worker = on_attempt(KEYHOLDER_WORKER, attempt);
     let leg = engine.begin(PLACE, FRONT)?;
@@ -44,7 +45,7 @@ pub(crate) fn order<S: Store>(engine: &mut Engine<S>, attempt: u8) -> Result<u8,
 }
 
 /// Reports the door at which somebody was seen while the alarm was set; 0 where it was not.
-pub(crate) fn report<S: Store>(engine: &mut Engine<S>, attempt: u8) -> Result<u8, EngineFault> {
+pub fn report<S: Store>(engine: &mut Engine<S>, attempt: u8) -> Result<u8, EngineFault> {
     let leg = engine.begin(PLACE, on_attempt(SET_WORKER, attempt))?;
     let set = engine.read(PLACE, leg, SET_RECORD)?;
     let door = engine.read(PLACE, leg, ZONE)?;
@@ -53,12 +54,14 @@ pub(crate) fn report<S: Store>(engine: &mut Engine<S>, attempt: u8) -> Result<u8
 }
 
 // The worker at an attempt. Each attempt takes others, since a cache whose entry no notice renews answers the same again.
-fn on_attempt(worker: u8, attempt: u8) -> u8 {
+fn on_attempt(worker: u8, attempt: u8) -> u8
+    ensures { result < 8 }
+{
     worker.wrapping_add(attempt) % WORKERS
 }
 
-/// Makes the chain's calls. Where what it has read was never true at one time (6), or a version that it needs is gone (15), the
-/// waiting notices are delivered, and the chain is given up and begun again, at most `ATTEMPTS` times in all.
+// Makes the calls of a chain, which takes the number of the attempt. Where what it has read was never true at one time (6), or a
+// version is gone (15), the waiting notices are delivered, and the chain is abandoned and begun again, at most `ATTEMPTS` times.
 pub(crate) fn retry<S: Store, F: Fn(&mut Engine<S>, u8) -> Result<u8, EngineFault>>(
     rt: &impl Print,
     engine: &mut Engine<S>,
@@ -69,19 +72,22 @@ pub(crate) fn retry<S: Store, F: Fn(&mut Engine<S>, u8) -> Result<u8, EngineFaul
     for attempt in 0..ATTEMPTS {
         match chain(engine, attempt) {
             Ok(leg) => return Ok(leg),
-            Err(EngineFault { fault, .. })
-                if matches!(
-                    fault.refusal,
-                    Refusal::IntervalsApart | Refusal::VersionGone
-                ) => {
-                println!(rt; "  refused {}, and begun again", fault.refusal.number())?;
+            Err(fault) if may_pass(fault.fault.refusal) => {
+                println!(rt; "  refused {}: begun again", fault.fault.refusal.number())?;
                 deliver_all(engine).map_err(mistake)?;
                 engine.abandon(PLACE).map_err(mistake)?;
             }
             Err(fault) => return Err(mistake(fault)),
         }
     }
-    bail!("given up after {ATTEMPTS} attempts")
+    bail!("refused at each of {ATTEMPTS} attempts")
+}
+
+// Can the same chain be accepted later, or on other workers?
+fn may_pass(refusal: Refusal) -> bool
+    ensures { result ≡ (refusal_number refusal == 6 || refusal_number refusal == 15) }
+{
+    matches!(refusal, Refusal::IntervalsApart | Refusal::VersionGone)
 }
 
 // Shows each waiting notice to its worker's cache, and removes it.
@@ -94,7 +100,7 @@ fn deliver_all<S: Store>(engine: &mut Engine<S>) -> Result<(), EngineFault> {
     Ok(())
 }
 
-/// Any other refusal comes from a mistake in this program.
-pub(crate) fn mistake(fault: EngineFault) -> anyhow::Error {
+/// Every other refusal comes from a mistake in this program.
+pub fn mistake(fault: EngineFault) -> anyhow::Error {
     anyhow!("the engine refused a call: {:?}", fault.fault)
 }

@@ -36,3 +36,15 @@ pub const HORIZON: u64 = 30;
 
 /// How often a chain is begun at most before it is given up.
 pub const ATTEMPTS: u8 = 3;
+
+/// What a key is called in print.
+pub fn name(key: u8) -> &'static str {
+    match key {
+        ZONE => "the zone",
+        SET_RECORD => "the set record",
+        KEYHOLDER => "the keyholder",
+        ORDER => "the guard's order",
+        REPORT => "the report",
+        _ => "another key",
+    }
+}
