@@ -4,7 +4,7 @@ use Rattle.std.proofs.Common.{◌≡◌, ℕ, ◌≤◌, true, ◌&&◌, List, [
 use Rattle.std.specs.List.{AllByRecursion, list_all}
 use Rattle.std.proofs.lemmas.Bool.{and_parts}
 use Rattle.std.proofs.lemmas.List.{length-append}
-use Rattle.snapshot.specs.Accounts.{Account, head_of, lawful, few_enough, sound_reading, rising_from, agreed_ends, sound_timestamp}
+use Rattle.snapshot.specs.Accounts.{Account, account_of, head_of, lawful, few_enough, sound_reading, rising_from, agreed_ends, sound_timestamp}
 use Rattle.snapshot.specs.Intervals.{Current}
 use Rattle.snapshot.specs.Limits.{chain_readings, write_keys}
 use Rattle.snapshot.specs.Overwriting.{overwritten}
@@ -21,10 +21,11 @@ use Rattle.engine_model.specs.Law.{AccountLaw, TrueOf, ValueAt}
 use Rattle.engine_model.specs.Rules.{Rules}
 use Rattle.engine_model.specs.Traces.{Trace, NewStore}
 use Rattle.engine.specs.Commits.{answer_and_lists}
-use Rattle.engine.specs.Engines.{CallersLists, IsCommit}
+use Rattle.engine.specs.Engines.{CallersLists, IsCommit, engine_of}
+use Rattle.engine.proofs.CommitLemmas.{account_shown}
 use Rattle.engine.specs.declared.engine.Engine.{Engine as Running}
 use Rattle.engine.specs.EngineLaw.{AddsAccount, InEveryTrace}
-use Rattle.dispatch.specs.Accounting.{Accounted, AccountedOnceThereIsRoom, Held, pruned}
+use Rattle.dispatch.specs.Accounting.{Accounted, AccountedOnceThereIsRoom, AnswersCommit, Held, RefusedAsFull, pruned}
 
 -- a lawful account goes from the greatest timestamp to the least promise
 agreed : (a : Account) → lawful a ≡ true → agreed_ends a.low a.high a.readings ≡ true
@@ -57,13 +58,13 @@ accounted depth before p l clock a law store trace same led =
 -- an account of a commit that was accepted once the store was pruned; its caller answers another error
 pub once_pruned :
     {E : Type 0} (depth : ℕ) (before after : Engine) (p l clock horizon : ℕ) (q : Result Account EngineFault) (r : Result Account E)
-    (Q : EngineFault → Type 0) → MatchResult q (λ a. r ≡ Ok a) Q → is_ok r ≡ is_ok q → pruned horizon before ≡ after →
+    (Q : EngineFault → Type 0) → RefusedAsFull depth before p l clock → MatchResult q (λ a. r ≡ Ok a) Q → is_ok r ≡ is_ok q → pruned horizon before ≡ after →
     IfOk q (λ a. Accounted depth after p l clock a) → IfOk r (λ a. AccountedOnceThereIsRoom depth before p l clock horizon a)
-once_pruned depth before after p l clock horizon (Ok a) r Q same both is all =
+once_pruned depth before after p l clock horizon (Ok a) r Q full same both is all =
     let Room : Account → Type 0 = λ x. AccountedOnceThereIsRoom depth before p l clock horizon x in
-    subst (λ x. IfOk x Room) (sym same) (inr (subst (λ e. Accounted depth e p l clock a) (sym is) all))
-once_pruned depth before after p l clock horizon (Err f) (Ok a) Q same both is all = absurd (cc both)
-once_pruned depth before after p l clock horizon (Err f) (Err e) Q same both is all = tt
+    subst (λ x. IfOk x Room) (sym same) (inr (full, subst (λ e. Accounted depth e p l clock a) (sym is) all))
+once_pruned depth before after p l clock horizon (Err f) (Ok a) Q full same both is all = absurd (cc both)
+once_pruned depth before after p l clock horizon (Err f) (Err e) Q full same both is all = tt
 
 -- the lists that a commit has filled are as long as its answer says, or longer
 abbrev answered : AccountHead → Result AccountHead EngineFault → AccountHead
@@ -87,3 +88,18 @@ pub lists_fit :
     IsCommit meaning depth p l clock r w before lists (Ok h) filled after →
     (h.readings ≤ length filled.0) × (h.writes ≤ length filled.1)
 lists_fit meaning depth p l clock r w before after lists filled h is = fit _ _ _ h filled (ap (λ x. x.0) is)
+
+-- what a commit answers, with what it has filled in, is the account or the refusal that the rules draw
+module _ {S : Type 0} (meaning : S → Meaning) (depth p l clock : ℕ) (before after : Running S) (lists filled : CallersLists) where
+  abbrev before_it : Engine
+  before_it = engine_of meaning before
+
+  pub shown_accepted :
+      (h : AccountHead) → IsCommit meaning depth p l clock chain_readings write_keys before lists (Ok h) filled after →
+      AnswersCommit depth before_it p l clock (Ok (account_of h filled.0 filled.1))
+  shown_accepted h is = account_shown lists.0 lists.1 (Ok h) filled _ (ap (λ x. x.0) is)
+
+  pub shown_refused :
+      (f : EngineFault) → IsCommit meaning depth p l clock chain_readings write_keys before lists (Err f) filled after →
+      AnswersCommit depth before_it p l clock (Err f)
+  shown_refused f is = account_shown lists.0 lists.1 (Err f) filled _ (ap (λ x. x.0) is)

@@ -1,9 +1,11 @@
 -- What the account of a committed chain tells, whatever calls came before.
-use Rattle.std.specs.Prelude.{ℕ, List, ◌∷◌, ◌⊎◌, Ok}
+use Rattle.std.specs.Prelude.{◌≡◌, ℕ, List, ◌∷◌, ◌⊎◌, Ok, Err, Result}
 use Rattle.std.specs.List.{AllByRecursion}
 use Rattle.snapshot.specs.Accounts.{Account}
 use Rattle.snapshot.specs.Intervals.{Lies, from_to}
 use Rattle.snapshot.specs.Limits.{chain_readings, write_keys}
+use Rattle.snapshot.specs.declared.fault.EngineFault.{EngineFault}
+use Rattle.snapshot.specs.declared.fault.Refusal.TheVariants.{CapacityExceeded}
 use Rattle.store.specs.Meaning.{after_prune}
 use Rattle.store.specs.declared.version.Version.{Version}
 use Rattle.engine_model.specs.Engines.{Engine}
@@ -11,6 +13,7 @@ use Rattle.engine_model.specs.Law.{ValueAt}
 use Rattle.engine_model.specs.Traces.{event, history_of}
 use Rattle.engine_model.specs.declared.calls.Call.TheVariants as call
 use Rattle.engine.specs.EngineLaw.{AddsAccount, InEveryTrace}
+use Rattle.engine.specs.StepOf.{step_of}
 
 -- at every time from the account's low to its high, each value in its readings was the one that the history held for the key
 abbrev pub Held : (ℕ → List Version) → Account → Type 0
@@ -29,7 +32,18 @@ Accounted depth before p l clock a =
 abbrev pub pruned : ℕ → Engine → Engine
 pruned h e = record { places = e.places; caches = e.caches; notices = e.notices; store = after_prune h e.store }
 
--- that, or the same once the store was pruned
+-- what a commit into lists with room for every account is answered is what the rules draw
+abbrev pub AnswersCommit : (depth : ℕ) → Engine → (p l clock : ℕ) → Result Account EngineFault → Type 0
+AnswersCommit depth before p l clock answer =
+    ◌≡◌ {A = Result Account EngineFault} answer (step_of depth (call.Commit p l clock chain_readings write_keys) before).0
+
+-- the commit was refused for want of room
+abbrev pub RefusedAsFull : (depth : ℕ) → Engine → (p l clock : ℕ) → Type 0
+RefusedAsFull depth before p l clock =
+    (f : EngineFault) × AnswersCommit depth before p l clock (Err f) × (f.fault.refusal ≡ CapacityExceeded)
+
+-- that account, or where there was no room, the one of the same commit once the store was pruned
 abbrev pub AccountedOnceThereIsRoom : (depth : ℕ) → Engine → (p l clock horizon : ℕ) → Account → Type 0
 AccountedOnceThereIsRoom depth before p l clock horizon a =
-    Accounted depth before p l clock a ⊎ Accounted depth (pruned horizon before) p l clock a
+    Accounted depth before p l clock a
+    ⊎ RefusedAsFull depth before p l clock × Accounted depth (pruned horizon before) p l clock a

@@ -2,7 +2,7 @@
 ghost use Rattle.std.specs.Prelude.{◌≡◌, ◌++◌, IfOk, OnOk, OnErr};
 ghost use Rattle.book.specs.Format.{account_bytes, as_account};
 ghost use Rattle.engine.specs.Engines.{engine_of};
-ghost use Rattle.dispatch.specs.Accounting.{Accounted, AccountedOnceThereIsRoom};
+ghost use Rattle.dispatch.specs.Accounting.{Accounted, AccountedOnceThereIsRoom, AnswersCommit};
 
 use crate::chains::mistake;
 use crate::site::PLACE;
@@ -51,12 +51,13 @@ impl Committed {
 }
 
 // Commits the chain by a leg, and answers its account.
-#[tactic(auto, using(crate::proofs::Accountings::accounted, crate::proofs::Accountings::lists_fit))]
+#[tactic(auto, using(crate::proofs::Accountings::accounted, crate::proofs::Accountings::lists_fit, crate::proofs::Accountings::shown_accepted, crate::proofs::Accountings::shown_refused))]
 fn commit_once<S: Store>(
     engine: &mut Engine<S>,
     leg: u8,
     clock: u64,
 ) -> Result<Committed, EngineFault>
+    ensures answer { AnswersCommit S.Store.DEPTH (engine_of S.Reads.meaning engine.old) PLACE leg clock result }
     ensures accounted { IfOk result (λ account. Accounted S.Store.DEPTH (engine_of S.Reads.meaning engine.old) PLACE leg clock account) }
     ensures unchanged { OnErr result (engine.new ≡ engine.old) }
 {
