@@ -1,6 +1,6 @@
 -- What an account lists was so at every time from its low to its high: its readings are true of the history from their timestamps
 -- to their promises, and low and high lie between these.
-use Rattle.std.proofs.Common.{◌≡◌, ℕ, ◌≤◌, true, ◌&&◌, List, [], ◌∷◌, length, drop, Ok, Err, Result, IfOk, MatchResult, is_ok, inr, refl, sym, subst, ap, arith}
+use Rattle.std.proofs.Common.{◌≡◌, ℕ, ◌≤◌, true, ◌&&◌, List, [], ◌∷◌, length, drop, Ok, Err, Result, IfOk, MatchResult, is_ok, inr, refl, sym, subst, ap, ◌∙◌, arith}
 use Rattle.std.specs.List.{AllByRecursion, list_all}
 use Rattle.std.proofs.lemmas.Bool.{and_parts}
 use Rattle.std.proofs.lemmas.List.{length-append}
@@ -20,12 +20,15 @@ use Rattle.engine_model.specs.Engines.{Engine}
 use Rattle.engine_model.specs.Law.{AccountLaw, TrueOf, ValueAt}
 use Rattle.engine_model.specs.Rules.{Rules}
 use Rattle.engine_model.specs.Traces.{Trace, NewStore}
-use Rattle.engine.specs.Commits.{answer_and_lists}
-use Rattle.engine.specs.Engines.{CallersLists, IsCommit, engine_of}
+use Rattle.engine.specs.Commits.{account_in, answer_and_lists}
+use Rattle.engine.specs.Engines.{CallersLists, IsCommit, IsStep, engine_of}
+use Rattle.engine.specs.StepOf.{step_of}
+use Rattle.engine_model.specs.declared.calls.Call.{Call}
+use Rattle.engine_model.specs.declared.calls.Call.TheVariants as call
 use Rattle.engine.proofs.CommitLemmas.{account_shown}
 use Rattle.engine.specs.declared.engine.Engine.{Engine as Running}
 use Rattle.engine.specs.EngineLaw.{AddsAccount, InEveryTrace}
-use Rattle.dispatch.specs.Accounting.{Accounted, AccountedOnceThereIsRoom, AnswersCommit, Held, RefusedAsFull, pruned}
+use Rattle.dispatch.specs.Accounting.{Accounted, AccountedOnceThereIsRoom, Held, RefusedAsFull, pruned}
 
 -- a lawful account goes from the greatest timestamp to the least promise
 agreed : (a : Account) → lawful a ≡ true → agreed_ends a.low a.high a.readings ≡ true
@@ -89,17 +92,31 @@ pub lists_fit :
     (h.readings ≤ length filled.0) × (h.writes ≤ length filled.1)
 lists_fit meaning depth p l clock r w before after lists filled h is = fit _ _ _ h filled (ap (λ x. x.0) is)
 
--- what a commit answers, with what it has filled in, is the account or the refusal that the rules draw
+-- what a commit answers, with what it has filled in, and the engine after it follow by the rules
 module _ {S : Type 0} (meaning : S → Meaning) (depth p l clock : ℕ) (before after : Running S) (lists filled : CallersLists) where
-  abbrev before_it : Engine
-  before_it = engine_of meaning before
+  abbrev the_commit : Call
+  the_commit = call.Commit p l clock chain_readings write_keys
+
+  abbrev drawn : Result Account EngineFault × Engine
+  drawn = step_of depth the_commit (engine_of meaning before)
+
+  abbrev Shown : Type 0
+  Shown = (Result AccountHead EngineFault × CallersLists) × Engine
+
+  shown :
+      (q : Result AccountHead EngineFault) → IsCommit meaning depth p l clock chain_readings write_keys before lists q filled after →
+      ◌≡◌ {A = Result Account EngineFault × Engine} (account_in q filled.0 filled.1, engine_of meaning after) drawn
+  shown q is =
+      let account : Shown → Result Account EngineFault × Engine = λ t. (account_in t.0.0 t.0.1.0 t.0.1.1, t.1) in
+      let handed = answer_and_lists lists.0 lists.1 drawn.0 in
+      ap account is ∙ ap (λ x. (x, drawn.1)) (account_shown lists.0 lists.1 handed.0 handed.1 drawn.0 refl)
 
   pub shown_accepted :
       (h : AccountHead) → IsCommit meaning depth p l clock chain_readings write_keys before lists (Ok h) filled after →
-      AnswersCommit depth before_it p l clock (Ok (account_of h filled.0 filled.1))
-  shown_accepted h is = account_shown lists.0 lists.1 (Ok h) filled _ (ap (λ x. x.0) is)
+      IsStep meaning depth the_commit before (Ok (account_of h filled.0 filled.1)) after
+  shown_accepted h is = shown (Ok h) is
 
   pub shown_refused :
       (f : EngineFault) → IsCommit meaning depth p l clock chain_readings write_keys before lists (Err f) filled after →
-      AnswersCommit depth before_it p l clock (Err f)
-  shown_refused f is = account_shown lists.0 lists.1 (Err f) filled _ (ap (λ x. x.0) is)
+      IsStep meaning depth the_commit before (Err f) after
+  shown_refused f is = shown (Err f) is

@@ -32,15 +32,11 @@ Accounted depth before p l clock a =
 abbrev pub pruned : ℕ → Engine → Engine
 pruned h e = record { places = e.places; caches = e.caches; notices = e.notices; store = after_prune h e.store }
 
--- what a commit into lists with room for every account is answered is what the rules draw
-abbrev pub AnswersCommit : (depth : ℕ) → Engine → (p l clock : ℕ) → Result Account EngineFault → Type 0
-AnswersCommit depth before p l clock answer =
-    ◌≡◌ {A = Result Account EngineFault} answer (step_of depth (call.Commit p l clock chain_readings write_keys) before).0
-
--- the commit was refused for want of room
+-- the commit is refused, by the rules, for want of room
 abbrev pub RefusedAsFull : (depth : ℕ) → Engine → (p l clock : ℕ) → Type 0
 RefusedAsFull depth before p l clock =
-    (f : EngineFault) × AnswersCommit depth before p l clock (Err f) × (f.fault.refusal ≡ CapacityExceeded)
+    (f : EngineFault) × ◌≡◌ {A = Result Account EngineFault} (Err f) (step_of depth (call.Commit p l clock chain_readings write_keys) before).0
+    × (f.fault.refusal ≡ CapacityExceeded)
 
 -- that account, or where there was no room, the one of the same commit once the store was pruned
 abbrev pub AccountedOnceThereIsRoom : (depth : ℕ) → Engine → (p l clock horizon : ℕ) → Account → Type 0

@@ -1,8 +1,10 @@
 //! Commits, and the book of their accounts.
 ghost use Rattle.std.specs.Prelude.{◌≡◌, ◌++◌, IfOk, OnOk, OnErr};
 ghost use Rattle.book.specs.Format.{account_bytes, as_account};
-ghost use Rattle.engine.specs.Engines.{engine_of};
-ghost use Rattle.dispatch.specs.Accounting.{Accounted, AccountedOnceThereIsRoom, AnswersCommit};
+ghost use Rattle.snapshot.specs.Limits.{chain_readings, write_keys};
+ghost use Rattle.engine_model.specs.declared.calls.Call.TheVariants as call;
+ghost use Rattle.engine.specs.Engines.{engine_of, IsStep};
+ghost use Rattle.dispatch.specs.Accounting.{Accounted, AccountedOnceThereIsRoom};
 
 use crate::chains::mistake;
 use crate::site::PLACE;
@@ -57,7 +59,7 @@ fn commit_once<S: Store>(
     leg: u8,
     clock: u64,
 ) -> Result<Committed, EngineFault>
-    ensures answer { AnswersCommit S.Store.DEPTH (engine_of S.Reads.meaning engine.old) PLACE leg clock result }
+    ensures step { IsStep S.Reads.meaning S.Store.DEPTH (call.Commit PLACE leg clock chain_readings write_keys) engine.old result engine.new }
     ensures accounted { IfOk result (λ account. Accounted S.Store.DEPTH (engine_of S.Reads.meaning engine.old) PLACE leg clock account) }
     ensures unchanged { OnErr result (engine.new ≡ engine.old) }
 {

@@ -1,5 +1,5 @@
 //! Chains of calls on the engine. Each answers the leg by which it is to commit.
-ghost use Rattle.std.specs.Prelude.{◌≡◌, ◌<◌, ◌||◌, ◌==◌};
+ghost use Rattle.std.specs.Prelude.{◌≡◌, ◌+◌, ◌%◌, ◌||◌, ◌==◌};
 ghost use Rattle.snapshot.specs.Refusals.{refusal_number};
 
 use crate::site::{
@@ -55,7 +55,7 @@ pub fn report<S: Store>(engine: &mut Engine<S>, attempt: u8) -> Result<u8, Engin
 
 // The worker at an attempt. Each attempt takes others, since a cache whose entry no notice renews answers the same again.
 fn on_attempt(worker: u8, attempt: u8) -> u8
-    ensures { result < 8 }
+    ensures { result ≡ (worker + attempt) % 8 }
 {
     worker.wrapping_add(attempt) % WORKERS
 }

@@ -39,13 +39,13 @@ fn main(rt: HostRuntime) -> anyhow::Result<()> {
     let leg = note(&mut engine, &[(ZONE, 6), (KEYHOLDER, 4)]).map_err(mistake)?;
     finish(&rt, &mut engine, &mut book, leg, 30)?;
 
-    // Worker 1 has door 5 in its cache, as it was known at 20, since the notice of door 6 waits; and keyholder 4 came at 30. So
-    // the first attempt is refused (6). At its commit the table is full (14): it keeps 69 versions.
+    // The notice of door 6 waits, so worker 1 still has door 5 in its cache, known to be so at 20; keyholder 4 came at 30. The
+    // first attempt is refused (6). When the second commits, the table is full with 69 versions (14).
     println!(rt; "35: the guard is sent")?;
     let leg = retry(&rt, &mut engine, order)?;
     finish(&rt, &mut engine, &mut book, leg, 35)?;
 
-    // Worker 2 has the set record in its cache, as it was known up to 20, and the zone of that time was pruned (15).
+    // Worker 2 has the set record in its cache, known to be so up to 20, and the zone of that time was pruned (15).
     println!(rt; "40: the report is written")?;
     let leg = retry(&rt, &mut engine, report)?;
     finish(&rt, &mut engine, &mut book, leg, 40)?;

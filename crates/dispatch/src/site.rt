@@ -15,7 +15,7 @@ pub const ORDER: u8 = 11;
 /// The report: the door at which somebody was seen while the alarm was set.
 pub const REPORT: u8 = 12;
 
-/// The worker on which sensors and staff write.
+/// The control room's own worker.
 pub const FRONT: u8 = 6;
 
 /// The workers that look at the zone, at the set record and at the keyholder, each at the first attempt.

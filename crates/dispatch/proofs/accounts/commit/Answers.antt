@@ -10,5 +10,5 @@ pub returns-in_ok-println-in-Err : goal.returns-in_ok-println-in-Err
 returns-in_ok-println-in-Err g c =
     let full : c.in-Err.field-0.fault.refusal ≡ CapacityExceeded = search rules in
     let same = ap (λ e. pruned c.args.horizon (engine_of g.S.Reads.meaning e)) (sym c.in-Err.ensures.unchanged) in
-    once_pruned _ _ _ _ _ _ _ c.commit_once-in-Err.result c.map_err.result _ (c.in-Err.field-0, c.in-Err.ensures.answer, full) c.map_err.ensures.cases c.map_err.ensures.variant
+    once_pruned _ _ _ _ _ _ _ c.commit_once-in-Err.result c.map_err.result _ (c.in-Err.field-0, ap (λ x. x.0) c.in-Err.ensures.step, full) c.map_err.ensures.cases c.map_err.ensures.variant
     (same ∙ sym (ap (λ x. x.1) c.prune.ensures.step)) c.commit_once-in-Err.ensures.accounted
