@@ -60,8 +60,9 @@ fn on_attempt(worker: u8, attempt: u8) -> u8
     worker.wrapping_add(attempt) % WORKERS
 }
 
-// Makes the calls of a chain, which takes the number of the attempt. Where what it has read was never true at one time (6), or a
-// version is gone (15), the waiting notices are delivered, and the chain is abandoned and begun again, at most `ATTEMPTS` times.
+// Makes the calls of a chain, which is told the number of the attempt, from 0. Where what it has read was never true at one
+// time (6), or a version is gone (15), the waiting notices are delivered, and the chain is abandoned and begun again, with at
+// most `ATTEMPTS` attempts in all.
 pub(crate) fn retry<S: Store, F: Fn(&mut Engine<S>, u8) -> Result<u8, EngineFault>>(
     rt: &impl Print,
     engine: &mut Engine<S>,
