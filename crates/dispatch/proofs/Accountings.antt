@@ -1,6 +1,6 @@
 -- What an account lists was so at every time from its low to its high: its readings are true of the history from their timestamps
 -- to their promises, and low and high lie between these.
-use Rattle.std.proofs.Common.{◌≡◌, ℕ, ◌≤◌, true, ◌&&◌, List, [], ◌∷◌, length, drop, Ok, Err, Result, IfOk, MatchResult, is_ok, inr, refl, sym, subst, ap, ◌∙◌, arith}
+use Rattle.std.proofs.Common.{◌≡◌, ℕ, ◌≤◌, true, ◌&&◌, List, [], ◌∷◌, length, drop, Ok, Err, Result, inr, refl, sym, subst, ap, ◌∙◌, arith}
 use Rattle.std.specs.List.{AllByRecursion, list_all}
 use Rattle.std.proofs.lemmas.Bool.{and_parts}
 use Rattle.std.proofs.lemmas.List.{length-append}
@@ -58,16 +58,12 @@ accounted depth before p l clock a law store trace same led =
     let added = law store trace same led in
     (added, held _ store _ trace p l clock a added)
 
--- an account of a commit that was accepted once the store was pruned; its caller answers another error
+-- an account of a commit that was accepted once the store was pruned
 pub once_pruned :
-    {E : Type 0} (depth : ℕ) (before after : Engine) (p l clock horizon : ℕ) (q : Result Account EngineFault) (r : Result Account E)
-    (Q : EngineFault → Type 0) → RefusedAsFull depth before p l clock → MatchResult q (λ a. r ≡ Ok a) Q → is_ok r ≡ is_ok q → pruned horizon before ≡ after →
-    IfOk q (λ a. Accounted depth after p l clock a) → IfOk r (λ a. AccountedOnceThereIsRoom depth before p l clock horizon a)
-once_pruned depth before after p l clock horizon (Ok a) r Q full same both is all =
-    let Room : Account → Type 0 = λ x. AccountedOnceThereIsRoom depth before p l clock horizon x in
-    subst (λ x. IfOk x Room) (sym same) (inr (full, subst (λ e. Accounted depth e p l clock a) (sym is) all))
-once_pruned depth before after p l clock horizon (Err f) (Ok a) Q full same both is all = absurd (cc both)
-once_pruned depth before after p l clock horizon (Err f) (Err e) Q full same both is all = tt
+    (depth : ℕ) (before after : Engine) (p l clock horizon : ℕ) (a : Account) → RefusedAsFull depth before p l clock →
+    pruned horizon before ≡ after → Accounted depth after p l clock a → AccountedOnceThereIsRoom depth before p l clock horizon a
+once_pruned depth before after p l clock horizon a full is all =
+    inr (full, subst (λ e. Accounted depth e p l clock a) (sym is) all)
 
 -- the lists that a commit has filled are as long as its answer says, or longer
 abbrev answered : AccountHead → Result AccountHead EngineFault → AccountHead

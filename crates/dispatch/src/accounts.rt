@@ -6,16 +6,15 @@ ghost use Rattle.engine_model.specs.declared.calls.Call.TheVariants as call;
 ghost use Rattle.engine.specs.Engines.{engine_of, IsStep};
 ghost use Rattle.dispatch.specs.Accounting.{Accounted, AccountedOnceThereIsRoom};
 
-use crate::chains::mistake;
 use crate::site::PLACE;
-use anyhow::anyhow;
-use book::account::Account;
-use engine::engine::Engine;
-use snapshot::account::{AccountHead, ChainReading, NO_READING, NO_WRITE, Write};
-use snapshot::fault::{EngineFault, Refusal};
-use snapshot::limits::{CHAIN_READINGS, WRITE_KEYS};
+use book::Account;
+use engine::Engine;
+use snapshot::{
+    AccountHead, CHAIN_READINGS, ChainReading, EngineFault, NO_READING, NO_WRITE, Refusal,
+    WRITE_KEYS, Write,
+};
 use std::marker::Model;
-use store::traits::Store;
+use store::Store;
 
 /// The account of a committed chain: its five numbers, and lists with room for every account, of which its readings and its
 /// writes fill the starts.
@@ -89,9 +88,9 @@ fn commit<S: Store>(
         Err(EngineFault { fault, .. }) if fault.refusal == Refusal::CapacityExceeded => {
             println!(rt; "  refused 14: pruned up to {horizon}")?;
             engine.prune(horizon);
-            commit_once(engine, leg, clock).map_err(mistake)
+            Ok(commit_once(engine, leg, clock)?)
         }
-        Err(fault) => Err(mistake(fault)),
+        Err(fault) => Err(fault.into()),
     }
 }
 
@@ -109,7 +108,7 @@ fn add_to(book: &mut Vec<u8>, account: &Account) -> anyhow::Result<()>
             book.extend_from_slice(&buffer[..size])?;
             Ok(())
         }
-        Err(refused) => Err(anyhow!("the book refused an account: {:?}", refused.fault)),
+        Err(refused) => Err(refused.into()),
     }
 }
 

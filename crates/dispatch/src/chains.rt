@@ -6,11 +6,10 @@ use crate::site::{
     ATTEMPTS, FRONT, KEYHOLDER, KEYHOLDER_WORKER, ORDER, PLACE, REPORT, SET_RECORD, SET_WORKER,
     ZONE, ZONE_WORKER,
 };
-use anyhow::{anyhow, bail};
-use engine::engine::Engine;
-use snapshot::fault::{EngineFault, Refusal};
-use snapshot::limits::WORKERS;
-use store::traits::Store;
+use anyhow::bail;
+use engine::Engine;
+use snapshot::{EngineFault, Refusal, WORKERS};
+use store::Store;
 
 /// Writes what a sensor or the staff tell: keys with their values.
 pub fn note<S: Store>(engine: &mut Engine<S>, writes: &[(u8, u32)]) -> Result<u8, EngineFault> {
@@ -75,10 +74,10 @@ pub(crate) fn retry<S: Store, F: Fn(&mut Engine<S>, u8) -> Result<u8, EngineFaul
             Ok(leg) => return Ok(leg),
             Err(fault) if may_pass(fault.fault.refusal) => {
                 println!(rt; "  refused {}: begun again", fault.fault.refusal.number())?;
-                deliver_all(engine).map_err(mistake)?;
-                engine.abandon(PLACE).map_err(mistake)?;
+                deliver_all(engine)?;
+                engine.abandon(PLACE)?;
             }
-            Err(fault) => return Err(mistake(fault)),
+            Err(fault) => return Err(fault.into()),
         }
     }
     bail!("refused at each of {ATTEMPTS} attempts")
@@ -99,9 +98,4 @@ fn deliver_all<S: Store>(engine: &mut Engine<S>) -> Result<(), EngineFault> {
         engine.discard(0)?;
     }
     Ok(())
-}
-
-/// Every other refusal comes from a mistake in this program.
-pub fn mistake(fault: EngineFault) -> anyhow::Error {
-    anyhow!("the engine refused a call: {:?}", fault.fault)
 }

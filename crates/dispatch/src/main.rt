@@ -6,17 +6,13 @@ mod chains;
 mod site;
 
 use accounts::commit_to_book;
-use book::listing::{Listing, read_book};
-use chains::{look, mistake, note, order, report, retry};
-use engine::engine::Engine;
+use book::{Listing, read_book};
+use chains::{look, note, order, report, retry};
+use engine::Engine;
 use site::{FRONT, HORIZON, KEYHOLDER, PLACE, RECORDS, SET_RECORD, ZONE, name};
-use snapshot::account::Write;
-use snapshot::fault::{EngineFault, Refusal};
-use snapshot::interval::Interval;
-use snapshot::limits::KEYS;
-use store::traits::Store;
-use table_store::record::NO_RECORD;
-use table_store::table::Table;
+use snapshot::{EngineFault, Interval, KEYS, Refusal, Write};
+use store::Store;
+use table_store::{NO_RECORD, Table};
 
 fn main(rt: HostRuntime) -> anyhow::Result<()> {
     let mut memory = [NO_RECORD; RECORDS];
@@ -24,19 +20,19 @@ fn main(rt: HostRuntime) -> anyhow::Result<()> {
     let mut book = Vec::new(rt.alloc());
 
     println!(rt; "10: the alarm is set, and keyholder 3 is on duty")?;
-    let leg = note(&mut engine, &[(SET_RECORD, 1), (KEYHOLDER, 3)]).map_err(mistake)?;
+    let leg = note(&mut engine, &[(SET_RECORD, 1), (KEYHOLDER, 3)])?;
     finish(&rt, &mut engine, &mut book, leg, 10)?;
 
     println!(rt; "20: the sensor sees somebody at door 5")?;
-    let leg = note(&mut engine, &[(ZONE, 5)]).map_err(mistake)?;
+    let leg = note(&mut engine, &[(ZONE, 5)])?;
     finish(&rt, &mut engine, &mut book, leg, 20)?;
 
     println!(rt; "20: somebody looks at the zone and the set record")?;
-    let leg = look(&mut engine).map_err(mistake)?;
+    let leg = look(&mut engine)?;
     finish(&rt, &mut engine, &mut book, leg, 20)?;
 
     println!(rt; "30: the sensor sees somebody at door 6, and keyholder 4 takes over")?;
-    let leg = note(&mut engine, &[(ZONE, 6), (KEYHOLDER, 4)]).map_err(mistake)?;
+    let leg = note(&mut engine, &[(ZONE, 6), (KEYHOLDER, 4)])?;
     finish(&rt, &mut engine, &mut book, leg, 30)?;
 
     // The notice of door 6 waits, so worker 1 still has door 5 in its cache, known to be so at 20; keyholder 4 came at 30. The
@@ -90,17 +86,17 @@ fn survey<S: Store>(
     book: &mut Vec<u8>,
     clock: u64,
 ) -> anyhow::Result<()> {
-    let mut leg = engine.begin(PLACE, FRONT).map_err(mistake)?;
+    let mut leg = engine.begin(PLACE, FRONT)?;
     for key in 0..KEYS {
         match engine.read(PLACE, leg, key) {
             Ok(_) => {}
             Err(EngineFault { fault, .. }) if fault.refusal == Refusal::ReadingsFull => {
                 println!(rt; "  refused 8: committed, and a new chain goes on")?;
                 finish(rt, engine, book, leg, clock)?;
-                leg = engine.begin(PLACE, FRONT).map_err(mistake)?;
-                engine.read(PLACE, leg, key).map_err(mistake)?;
+                leg = engine.begin(PLACE, FRONT)?;
+                engine.read(PLACE, leg, key)?;
             }
-            Err(fault) => return Err(mistake(fault)),
+            Err(fault) => return Err(fault.into()),
         }
     }
     finish(rt, engine, book, leg, clock)

@@ -6,9 +6,9 @@ use Rattle.dispatch.proofs.Accountings.{once_pruned}
 use Rattle.dispatch.proofs.accounts.commit.Goals as goal
 
 -- the store was pruned after a commit that changed nothing
-pub returns-in_ok-println-in-Err : goal.returns-in_ok-println-in-Err
-returns-in_ok-println-in-Err g c =
+pub returns-in_ok-commit_once-in-Err : goal.returns-in_ok-commit_once-in-Err
+returns-in_ok-commit_once-in-Err g c =
     let full : c.in-Err.field-0.fault.refusal ≡ CapacityExceeded = search rules in
     let same = ap (λ e. pruned c.args.horizon (engine_of g.S.Reads.meaning e)) (sym c.in-Err.ensures.unchanged) in
-    once_pruned _ _ _ _ _ _ _ c.commit_once-in-Err.result c.map_err.result _ (c.in-Err.field-0, ap (λ x. x.0) c.in-Err.ensures.step, full) c.map_err.ensures.cases c.map_err.ensures.variant
-    (same ∙ sym (ap (λ x. x.1) c.prune.ensures.step)) c.commit_once-in-Err.ensures.accounted
+    once_pruned _ _ _ _ _ _ _ _ (c.in-Err.field-0, ap (λ x. x.0) c.in-Err.ensures.step, full)
+    (same ∙ sym (ap (λ x. x.1) c.prune.ensures.step)) c.in_ok-commit_once-in-Err.ensures.accounted
