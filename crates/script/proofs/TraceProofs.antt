@@ -21,7 +21,7 @@ text_is :
     played_on depth s number lines ≡ text_with number lines (answers_to depth (calls_in lines) s)
 text_is depth s number [] = refl
 text_is depth s number (line.Blank ∷ lines) = text_is depth s (number + 1) lines
-text_is depth s number (line.Bad ∷ lines) = ap (λ t. bad_line number ++ t) (text_is depth s (number + 1) lines)
+text_is depth s number (line.Bad bad ∷ lines) = ap (λ t. bad_line number ++ t) (text_is depth s (number + 1) lines)
 text_is depth s number (line.Store kind ∷ lines) = ap (λ t. bad_line number ++ t) (text_is depth s (number + 1) lines)
 text_is depth s number (line.Call request ∷ lines) =
     let now = performed depth request.call s in
@@ -56,7 +56,7 @@ shows_table_trace size number lines =
 shows_traces : (number : ℕ) (lines : List Line) → ShowsTraces number lines (played number lines)
 shows_traces number [] = refl
 shows_traces number (line.Blank ∷ lines) = shows_traces (number + 1) lines
-shows_traces number (line.Bad ∷ lines) = (played (number + 1) lines, refl, shows_traces (number + 1) lines)
+shows_traces number (line.Bad bad ∷ lines) = (played (number + 1) lines, refl, shows_traces (number + 1) lines)
 shows_traces number (line.Store Newest ∷ lines) = (_, refl, shows_trace new_newest (number + 1) lines)
 shows_traces number (line.Store (Table records) ∷ lines) =
     (_, refl, shows_table_trace (min records most_records) (number + 1) lines)

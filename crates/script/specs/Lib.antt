@@ -1,5 +1,6 @@
 pub mod Numbers
 pub mod Words
+pub mod BadLines
 pub mod Requests
 pub mod Lines
 pub mod Shown

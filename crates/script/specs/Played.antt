@@ -46,7 +46,7 @@ shown_result (Err f) = Err f.fault
 -- what a line prints once the engine stands, over a store of this depth: a store's line is bad there
 abbrev pub line_text : ℕ → Engine → ℕ → Line → List ℕ
 line_text depth engine number line.Blank = []
-line_text depth engine number line.Bad = bad_line number
+line_text depth engine number (line.Bad bad) = bad_line number
 line_text depth engine number (line.Store kind) = bad_line number
 line_text depth engine number (line.Call request) =
     result_line (request_text request) (shown_result (performed depth request.call engine).0)
@@ -54,7 +54,7 @@ line_text depth engine number (line.Call request) =
 -- the engine after the line
 abbrev pub after_line : ℕ → Engine → Line → Engine
 after_line depth engine line.Blank = engine
-after_line depth engine line.Bad = engine
+after_line depth engine (line.Bad bad) = engine
 after_line depth engine (line.Store kind) = engine
 after_line depth engine (line.Call request) = (performed depth request.call engine).1
 
@@ -77,7 +77,7 @@ check_result (Err f) = Err f
 abbrev pub played : ℕ → List Line → List ℕ
 played number [] = []
 played number (line.Blank ∷ lines) = played (number + 1) lines
-played number (line.Bad ∷ lines) = bad_line number ++ played (number + 1) lines
+played number (line.Bad bad ∷ lines) = bad_line number ++ played (number + 1) lines
 played number (line.Store Newest ∷ lines) =
     result_line (store_text Newest) (Ok answer.Done) ++ played_on 1 (new_engine (new_store key_count)) (number + 1) lines
 played number (line.Store (Table records) ∷ lines) =

@@ -19,7 +19,7 @@ use Rattle.script.specs.declared.line.StoreKind.TheVariants.{Newest, Table}
 abbrev pub calls_in : List Line → List Call
 calls_in [] = []
 calls_in (line.Blank ∷ lines) = calls_in lines
-calls_in (line.Bad ∷ lines) = calls_in lines
+calls_in (line.Bad bad ∷ lines) = calls_in lines
 calls_in (line.Store kind ∷ lines) = calls_in lines
 calls_in (line.Call request ∷ lines) = request.call ∷ calls_in lines
 
@@ -27,7 +27,7 @@ calls_in (line.Call request ∷ lines) = request.call ∷ calls_in lines
 abbrev pub text_with : ℕ → List Line → List (Result Answer EngineFault) → List ℕ
 text_with number [] answers = []
 text_with number (line.Blank ∷ lines) answers = text_with (number + 1) lines answers
-text_with number (line.Bad ∷ lines) answers = bad_line number ++ text_with (number + 1) lines answers
+text_with number (line.Bad bad ∷ lines) answers = bad_line number ++ text_with (number + 1) lines answers
 text_with number (line.Store kind ∷ lines) answers = bad_line number ++ text_with (number + 1) lines answers
 text_with number (line.Call request ∷ lines) [] = []
 text_with number (line.Call request ∷ lines) (a ∷ answers) =
@@ -53,7 +53,7 @@ ShowsTableTrace records number lines text =
 abbrev pub ShowsTraces : ℕ → List Line → List ℕ → Type 0
 ShowsTraces number [] text = text ≡ []
 ShowsTraces number (line.Blank ∷ lines) text = ShowsTraces (number + 1) lines text
-ShowsTraces number (line.Bad ∷ lines) text = Begins (bad_line number) (ShowsTraces (number + 1) lines) text
+ShowsTraces number (line.Bad bad ∷ lines) text = Begins (bad_line number) (ShowsTraces (number + 1) lines) text
 ShowsTraces number (line.Store Newest ∷ lines) text =
     Begins (result_line (store_text Newest) (Ok answer.Done)) (ShowsTrace new_newest (number + 1) lines) text
 ShowsTraces number (line.Store (Table records) ∷ lines) text =

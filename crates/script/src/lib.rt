@@ -1,6 +1,7 @@
 //! Scripts of engine calls: what a line says, how a call and its answer are shown, and the playing of a script.
 #![tactic(auto)]
 
+pub mod bad_line;
 pub mod error;
 pub mod line;
 mod number;

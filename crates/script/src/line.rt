@@ -1,5 +1,6 @@
 //! What a line of a script says.
 
+use crate::bad_line::BadLine;
 use engine_model::calls::Call;
 
 /// The kind of store that a script asks for; a table has so many records, 0 to 1,024.
@@ -17,11 +18,15 @@ pub struct Request {
     pub names_rooms: bool,
 }
 
-/// A line is blank if it has no word or is a comment.
+/// What a line says.
 #[derive(Clone, Copy)]
 pub enum Line {
+    /// Nothing: it has no word, or is a comment.
     Blank,
-    Bad,
+    /// It says none of the others, for this reason.
+    Bad(BadLine),
+    /// Over which store the script is to be played.
     Store(StoreKind),
+    /// A call.
     Call(Request),
 }

@@ -1,12 +1,11 @@
 //! What a line of a script says, from its bytes.
-ghost use Rattle.std.specs.Prelude.{◌≡◌, ◌≤◌, length, map};
-ghost use Rattle.script.specs.Lines.{items_of, line_of, numbers_of, store_or_call, store_of};
+ghost use Rattle.std.specs.Prelude.{◌≡◌, map};
+ghost use Rattle.script.specs.Lines.{line_of, store_or_call, store_of};
 
+use crate::bad_line::{BadLine, Wanted};
 use crate::line::{Line, StoreKind};
-use crate::number::number_in;
-use crate::request::{request, room};
-use crate::words::{MOST_WORDS, without_end, words_in};
-use arrayvec::ArrayVec;
+use crate::request::{Operand, miscounted, request};
+use crate::words::{without_end, words_in};
 use snapshot::limits::MOST_RECORDS;
 
 /// What the line says; it may end with a newline or lack it. Any bytes are taken: a line is bad if it is neither blank,
@@ -21,42 +20,44 @@ pub fn parse(line: &[u8]) -> Line
     if first.first() == Some(&b'#') {
         return Line::Blank;
     }
-    store_or_call(first, others).unwrap_or(Line::Bad)
+    match store_or_call(first, others) {
+        Ok(line) => line,
+        Err(bad) => Line::Bad(bad),
+    }
 }
 
-// What a line with this first word and these others says; none if it is bad.
-fn store_or_call(first: &[u8], others: &[&[u8]]) -> Option<Line>
-    requires { length others.now ≤ 7 }
+// What a line with this first word and these others says, or why it is bad.
+fn store_or_call(first: &[u8], others: &[&[u8]]) -> Result<Line, BadLine>
     ensures { result ≡ store_or_call first.now (map (λ word. word.now) others.now) }
 {
     if first == b"store".as_slice() {
-        return Some(Line::Store(store(others)?));
+        Ok(Line::Store(store(others)?))
+    } else {
+        Ok(Line::Call(request(first, others)?))
     }
-    let numbers = numbers_in(others)?;
-    Some(Line::Call(request(first, numbers.as_slice())?))
 }
 
 // The store that these words name.
-fn store(words: &[&[u8]]) -> Option<StoreKind>
-    ensures { result ≡ store_of (map (λ word. word.now) words.now) }
+fn store(operands: &[&[u8]]) -> Result<StoreKind, BadLine>
+    ensures { result ≡ store_of (map (λ word. word.now) operands.now) }
 {
-    match words {
-        [kind] if *kind == b"newest".as_slice() => Some(StoreKind::Newest),
-        [kind, records] if *kind == b"table".as_slice() => Some(StoreKind::Table {
-            records: room(number_in(records)?, MOST_RECORDS)?,
-        }),
-        _ => None,
+    let [kind, others @ ..] = operands else {
+        return Err(miscounted(operands, Wanted::Either(2, 3)));
+    };
+    if *kind == b"newest".as_slice() {
+        match others {
+            [] => Ok(StoreKind::Newest),
+            _ => Err(miscounted(operands, Wanted::Exactly(2))),
+        }
+    } else if *kind == b"table".as_slice() {
+        match others {
+            [records] => {
+                let records = Operand::read(3, records)?.room(MOST_RECORDS)?;
+                Ok(StoreKind::Table { records })
+            }
+            _ => Err(miscounted(operands, Wanted::Exactly(3))),
+        }
+    } else {
+        Err(BadLine::UnknownWord { place: 2 })
     }
-}
-
-// The numbers that the words are; none if one of them is no number.
-fn numbers_in(words: &[&[u8]]) -> Option<ArrayVec<u64, MOST_WORDS>>
-    requires { length words.now ≤ 7 }
-    ensures { items_of result ≡ numbers_of (map (λ word. word.now) words.now) }
-{
-    let mut numbers = ArrayVec::new();
-    for word in words {
-        numbers.push(number_in(word)?);
-    }
-    Some(numbers)
 }

@@ -50,7 +50,7 @@ pub fn play<R: BufRead, W: Write>(
         let number = lines + 1;
         match line {
             Line::Blank => {}
-            Line::Bad => write_bad(output, &mut buffer, number)?,
+            Line::Bad(_) => write_bad(output, &mut buffer, number)?,
             Line::Store(kind) => return play_over(input, output, &mut buffer, number, kind),
             Line::Call(request) => return play_from(input, output, &mut buffer, number, request),
         }
@@ -184,7 +184,7 @@ fn play_line<W: Write, S: Store>(
 {
     match line {
         Line::Blank => Ok(()),
-        Line::Bad | Line::Store(_) => write_bad(output, buffer, number),
+        Line::Bad(_) | Line::Store(_) => write_bad(output, buffer, number),
         Line::Call(request) => perform(output, buffer, engine, request),
     }
 }

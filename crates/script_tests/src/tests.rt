@@ -250,7 +250,7 @@ fn lines_say_what_they_are(rt: HostRuntime) {
             Line::Store(StoreKind::Table { records: 0 })
         )
     );
-    assert!(rt; matches!(parse(b"store table 1025"), Line::Bad));
+    assert!(rt; matches!(parse(b"store table 1025"), Line::Bad(_)));
     assert!(rt; matches!(parse(b"count"), Line::Call(_)));
 }
 

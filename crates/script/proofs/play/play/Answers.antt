@@ -43,7 +43,7 @@ returns-in_err-write_bad-in-Bad-clause-prints g c =
     0
     c.loop-lines.lines
     c.in_ok-line.field-0
-    line.Bad
+    (line.Bad c.in-Bad.field-0)
     (bad_line number)
     failed
     c.loop-lines.invariant
@@ -141,7 +141,7 @@ loop-lines-preserved g c =
           0
           c.loop-lines.lines
           c.in_ok-line.field-0
-          line.Bad
+          (line.Bad w.in-Bad.field-0)
           (bad_line number)
           c.loop-lines.invariant
           c.in_ok-line.ensures.line
