@@ -1,5 +1,6 @@
 -- What is said of a bad line.
 use Rattle.std.specs.Prelude.{ℕ, ◌==◌, if◌then◌else◌, List, ◌++◌, codes, decimal, nat_lt}
+use Rattle.snapshot.specs.Shown.{line_break}
 use Rattle.script.specs.declared.bad_line.BadLine.{BadLine}
 use Rattle.script.specs.declared.bad_line.BadLine.TheVariants.{UnknownWord, WordCount, NotANumber, OutOfRange, LateStore}
 use Rattle.script.specs.declared.bad_line.Wanted.{Wanted}
@@ -25,3 +26,7 @@ bad_text (NotANumber place) = codes "word " ++ (decimal place ++ codes " is not 
 bad_text (OutOfRange place most) =
     codes "word " ++ (decimal place ++ (codes " is out of range (0 to " ++ (decimal most ++ codes ")")))
 bad_text LateStore = codes "a store line stands once, before every call"
+
+-- what is told of the line with this number
+abbrev pub message : ℕ → BadLine → List ℕ
+message number bad = codes "line " ++ (decimal number ++ (codes ": " ++ (bad_text bad ++ line_break)))

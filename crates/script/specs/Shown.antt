@@ -103,3 +103,13 @@ outcome_text (Ok (answer.Count n lost)) = codes "waiting " ++ (decimal n ++ (cod
 outcome_text (Ok (answer.Account a)) = account_text a
 outcome_text (Ok answer.Done) = codes "done"
 outcome_text (Err f) = fault_text f
+
+-- What a call adds to the book: the bytes of the account that it answers. An account that the book does not take adds nothing.
+abbrev pub booked_bytes : Result Answer Fault → List ℕ
+booked_bytes (Ok (answer.Leg l)) = []
+booked_bytes (Ok (answer.Legs l m)) = []
+booked_bytes (Ok (answer.Value x)) = []
+booked_bytes (Ok (answer.Count n lost)) = []
+booked_bytes (Ok (answer.Account a)) = if lawful a then account_bytes a else []
+booked_bytes (Ok answer.Done) = []
+booked_bytes (Err f) = []

@@ -5,6 +5,7 @@ pub mod bad_line;
 pub mod error;
 pub mod line;
 mod number;
+pub mod outputs;
 pub mod parse;
 pub mod play;
 mod request;

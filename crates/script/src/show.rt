@@ -100,7 +100,7 @@ impl fmt::Display for Outcome {
 }
 
 // The committed chain's account, as the book has it.
-fn account_of(committed: &CommittedAccount) -> Account<'_>
+pub(crate) fn account_of(committed: &CommittedAccount) -> Account<'_>
     ensures { as_account result ≡ committed.now }
 {
     let head = committed.head();
@@ -153,7 +153,7 @@ impl fmt::Display for LayerShown {
 }
 
 // The bytes of the longest account: 29 for its head and its last byte, and the most readings and writes.
-const LONGEST_ACCOUNT: usize = 29 + 22 * CHAIN_READINGS + 5 * WRITE_KEYS;
+pub(crate) const LONGEST_ACCOUNT: usize = 29 + 22 * CHAIN_READINGS + 5 * WRITE_KEYS;
 
 /// An account: a line with its five numbers, one for each reading and each write, and one with its bytes in the book.
 #[derive(Clone, Copy)]
@@ -253,7 +253,7 @@ impl fmt::Display for BookShown<'_> {
 }
 
 // The bytes of the account, which the book's writer puts into the buffer, or its refusal of an unlawful account.
-fn book_bytes<'a>(
+pub(crate) fn book_bytes<'a>(
     account: &Account,
     buffer: &'a mut [u8; LONGEST_ACCOUNT],
 ) -> Result<&'a [u8], Fault>

@@ -2,6 +2,7 @@
 ghost use Rattle.std.specs.Prelude.{IfSome};
 ghost use Rattle.script.specs.Played.{bad_line, result_line};
 ghost use Rattle.script.specs.Failures.{Writes};
+ghost use Rattle.script.specs.Sinks.{to_printed};
 
 use crate::error::PlayError;
 use crate::show::Outcome;
@@ -16,7 +17,7 @@ pub(crate) fn write_outcome<W: Write, C: fmt::Display + Copy>(
     call: C,
     outcome: Outcome,
 ) -> Result<(), PlayError>
-    ensures { IfSome (C.output call) (λ text. Writes result (W.contents output.old) (W.contents output.new) (result_line text outcome.0)) }
+    ensures { IfSome (C.output call) (λ text. Writes to_printed result (W.contents output.old) (W.contents output.new) (result_line text outcome.0)) }
 {
     buffer.clear();
     writeln!(buffer, "{call} -> {outcome}").map_err(|_| PlayError::Memory)?;
@@ -29,7 +30,7 @@ pub(crate) fn write_bad<W: Write>(
     buffer: &mut Vec<u8>,
     number: u64,
 ) -> Result<(), PlayError>
-    ensures { Writes result (W.contents output.old) (W.contents output.new) (bad_line number) }
+    ensures { Writes to_printed result (W.contents output.old) (W.contents output.new) (bad_line number) }
 {
     buffer.clear();
     writeln!(buffer, "bad {number}").map_err(|_| PlayError::Memory)?;

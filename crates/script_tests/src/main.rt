@@ -8,22 +8,31 @@ mod scripts;
 mod tests;
 
 use crate::scripts::SCRIPTS;
+use script::outputs::Outputs;
 use script::play::play;
 use std::fs;
 use std::io::{self, BufWriter, Write};
 
-fn play_file<W: Write>(rt: &HostRuntime, name: &str, output: &mut W) -> anyhow::Result<()> {
-    writeln!(output, "{name}")?;
+fn play_file<W: Write, B: Write, M: Write>(
+    rt: &HostRuntime,
+    name: &str,
+    outputs: &mut Outputs<W, B, M>,
+) -> anyhow::Result<()> {
+    writeln!(outputs.printed, "{name}")?;
     let bytes = fs::read(rt, name)?;
-    play(rt.alloc(), &mut bytes.as_slice(), output)?;
+    play(rt.alloc(), &mut bytes.as_slice(), outputs)?;
     Ok(())
 }
 
 fn main(rt: HostRuntime) -> anyhow::Result<()> {
-    let mut output = BufWriter::new(rt.alloc(), io::writer(&rt))?;
+    let mut outputs = Outputs {
+        printed: BufWriter::new(rt.alloc(), io::writer(&rt))?,
+        book: io::sink(),
+        messages: io::sink(),
+    };
     for name in SCRIPTS {
-        play_file(&rt, name, &mut output)?;
+        play_file(&rt, name, &mut outputs)?;
     }
-    output.flush()?;
+    outputs.printed.flush()?;
     Ok(())
 }

@@ -4,6 +4,7 @@ use book::account::Account;
 use script::error::PlayError;
 use script::line::{Line, StoreKind};
 use script::parse::parse;
+use script::outputs::Outputs;
 use script::play::play;
 use script::show::{AccountShown, FaultShown};
 use snapshot::account::{ChainReading, Reading, Write};
@@ -14,17 +15,21 @@ use std::io::{self, ErrorKind, Read};
 use std::process::Abort;
 use std::test::Fail;
 
-// What the script prints.
-fn played(heap: Global, script: &[u8]) -> Result<Vec<u8>, PlayError> {
-    let mut output = Vec::new(heap);
+// What the script writes to each output.
+fn played(heap: Global, script: &[u8]) -> Result<Outputs<Vec<u8>, Vec<u8>, Vec<u8>>, PlayError> {
+    let mut outputs = Outputs {
+        printed: Vec::new(heap),
+        book: Vec::new(heap),
+        messages: Vec::new(heap),
+    };
     let mut input = script;
-    play(heap, &mut input, &mut output)?;
-    Ok(output)
+    play(heap, &mut input, &mut outputs)?;
+    Ok(outputs)
 }
 
 // The script prints exactly this.
 fn prints(rt: &(impl Abort + AllocGlobal), script: &[u8], expected: &str) -> Result<(), Fail> {
-    let printed = played(rt.alloc(), script)?;
+    let printed = played(rt.alloc(), script)?.printed;
     assert_eq!(rt; printed.as_slice(), expected.as_bytes(), "{expected}");
     Ok(())
 }
@@ -305,12 +310,12 @@ const OLD_READ: &[u8] = b"begin 0 0\nwrite 0 0 1 1\ncommit 0 0 10\nbegin 1 1\nre
 fn without_a_store_line_there_is_a_table_which_keeps_old_versions(
     rt: HostRuntime,
 ) -> Result<(), Fail> {
-    let printed = played(rt.alloc(), OLD_READ)?;
+    let printed = played(rt.alloc(), OLD_READ)?.printed;
     assert!(rt; printed.as_slice().ends_with(b"\nread 1 0 2 -> value 0\n"));
     let mut script = Vec::new(rt.alloc());
     script.extend_from_slice(b"store newest\n")?;
     script.extend_from_slice(OLD_READ)?;
-    let printed = played(rt.alloc(), script.as_slice())?;
+    let printed = played(rt.alloc(), script.as_slice())?.printed;
     assert!(rt;
         printed
             .as_slice()
@@ -416,6 +421,15 @@ fn account_that_the_book_refuses_is_shown_with_that_refusal(rt: HostRuntime) -> 
 
 // Errors of input and output.
 
+// Outputs of which only what is printed is kept.
+fn only_printed<W: Write>(printed: W) -> Outputs<W, io::Sink, io::Sink> {
+    Outputs {
+        printed,
+        book: io::sink(),
+        messages: io::sink(),
+    }
+}
+
 // A reader of which every read fails.
 #[derive(Drop)]
 struct BrokenReader;
@@ -449,12 +463,12 @@ fn input_that_fails_ends_the_playing_after_the_lines_before(rt: HostRuntime) -> 
         ("store table 64\nbegin", "store table 64 -> done\n"),
     ] {
         let mut input = readable.as_bytes().chain(BrokenReader);
-        let mut output = Vec::new(rt.alloc());
-        let played = play(rt.alloc(), &mut input, &mut output);
+        let mut outputs = only_printed(Vec::new(rt.alloc()));
+        let played = play(rt.alloc(), &mut input, &mut outputs);
         assert!(rt;
             matches!(&played, Err(PlayError::Input(error)) if error.kind() == ErrorKind::Other)
         );
-        assert_eq!(rt; output.as_slice(), expected.as_bytes(), "{readable}");
+        assert_eq!(rt; outputs.printed.as_slice(), expected.as_bytes(), "{readable}");
     }
     let text = format!(in rt.alloc(); "{}", PlayError::Input(broken()))?;
     assert_eq!(rt; text.as_str(), "the script cannot be read: broken");
@@ -512,20 +526,20 @@ fn narrow(heap: Global, room: usize, most: usize) -> NarrowWriter {
 fn output_that_takes_no_more_ends_the_playing_with_an_error(rt: HostRuntime) -> Result<(), Fail> {
     for room in 0..THREE_LINES_PRINTED.len() {
         for fails in [false, true] {
-            let mut output = NarrowWriter {
+            let mut outputs = only_printed(NarrowWriter {
                 fails,
                 ..narrow(rt.alloc(), room, 7)
-            };
+            });
             let mut input = THREE_LINES;
             let kind = if fails {
                 ErrorKind::Other
             } else {
                 ErrorKind::WriteZero
             };
-            let played = play(rt.alloc(), &mut input, &mut output);
+            let played = play(rt.alloc(), &mut input, &mut outputs);
             assert!(rt; matches!(&played, Err(PlayError::Output(error)) if error.kind() == kind));
-            assert!(rt; THREE_LINES_PRINTED.starts_with(output.taken.as_slice()));
-            assert_eq!(rt; output.taken.len(), room);
+            assert!(rt; THREE_LINES_PRINTED.starts_with(outputs.printed.taken.as_slice()));
+            assert_eq!(rt; outputs.printed.taken.len(), room);
         }
     }
     let text = format!(in rt.alloc(); "{}", PlayError::Output(broken()))?;
@@ -537,13 +551,13 @@ fn output_that_takes_no_more_ends_the_playing_with_an_error(rt: HostRuntime) -> 
 fn output_that_takes_a_few_bytes_at_a_time_gets_them_all(rt: HostRuntime) {
     for most in [1, 2, 30] {
         for interrupts in [false, true] {
-            let mut output = NarrowWriter {
+            let mut outputs = only_printed(NarrowWriter {
                 interrupts,
                 ..narrow(rt.alloc(), THREE_LINES_PRINTED.len(), most)
-            };
+            });
             let mut input = THREE_LINES;
-            assert!(rt; play(rt.alloc(), &mut input, &mut output).is_ok());
-            assert_eq!(rt; output.taken.as_slice(), THREE_LINES_PRINTED);
+            assert!(rt; play(rt.alloc(), &mut input, &mut outputs).is_ok());
+            assert_eq!(rt; outputs.printed.taken.as_slice(), THREE_LINES_PRINTED);
         }
     }
 }

@@ -1,0 +1,83 @@
+//! The outputs of a playing, and what a call and a bad line add to each.
+ghost use Rattle.std.specs.Prelude.{IfSome};
+ghost use Rattle.script.specs.BadLines.{message};
+ghost use Rattle.script.specs.Failures.{AddsAll, Writes};
+ghost use Rattle.script.specs.Played.{bad_parts, result_parts};
+ghost use Rattle.script.specs.Shown.{booked_bytes};
+ghost use Rattle.script.specs.Sinks.{held, to_book, to_messages};
+
+use crate::bad_line::BadLine;
+use crate::error::PlayError;
+use crate::show::{LONGEST_ACCOUNT, Outcome, account_of, book_bytes};
+use crate::writing::{write_bad, write_outcome};
+use book::output::write_whole;
+use engine::answer::Answer;
+use std::fmt;
+use std::io::Write;
+
+/// Where a playing writes.
+#[derive(Drop)]
+pub struct Outputs<W, B, M> {
+    /// Each call with what it came to, and the number of each bad line.
+    pub printed: W,
+    /// The bytes of each account that is committed, one after another: a book.
+    pub book: B,
+    /// Of each bad line its number and why it is bad.
+    pub messages: M,
+}
+
+impl<W: Write, B: Write, M: Write> Outputs<W, B, M> {
+    // Writes an account into the book, and then the call and what it came to. The memory is for the text.
+    pub(crate) fn write_outcome<C: fmt::Display + Copy>(
+        &mut self,
+        memory: &mut Vec<u8>,
+        call: C,
+        outcome: Outcome,
+    ) -> Result<(), PlayError>
+        ensures { IfSome (C.output call) (λ text. AddsAll result (held W.contents B.contents M.contents self.old) (held W.contents B.contents M.contents self.new) (result_parts text outcome.0)) }
+    {
+        write_account(&mut self.book, &outcome)?;
+        write_outcome(&mut self.printed, memory, call, outcome)
+    }
+
+    // Tells why a line is bad, and then writes its number.
+    pub(crate) fn write_bad(
+        &mut self,
+        memory: &mut Vec<u8>,
+        number: u64,
+        bad: BadLine,
+    ) -> Result<(), PlayError>
+        ensures { AddsAll result (held W.contents B.contents M.contents self.old) (held W.contents B.contents M.contents self.new) (bad_parts number bad) }
+    {
+        write_message(&mut self.messages, memory, number, bad)?;
+        write_bad(&mut self.printed, memory, number)
+    }
+}
+
+// Writes the bytes of an account, as the book's writer gives them; of any other outcome there are none.
+fn write_account<B: Write>(output: &mut B, outcome: &Outcome) -> Result<(), PlayError>
+    ensures { Writes to_book result (B.contents output.old) (B.contents output.new) (booked_bytes outcome.now.0) }
+{
+    let Ok(Answer::Account(committed)) = &outcome.0 else {
+        return Ok(());
+    };
+    let mut buffer = [0; LONGEST_ACCOUNT];
+    match book_bytes(&account_of(committed), &mut buffer) {
+        Ok(bytes) => write_whole(output, bytes).map_err(PlayError::Book),
+        Err(_) => Ok(()),
+    }
+}
+
+// Writes why the line of this number is bad.
+fn write_message<M: Write>(
+    output: &mut M,
+    memory: &mut Vec<u8>,
+    number: u64,
+    bad: BadLine,
+) -> Result<(), PlayError>
+    ensures { Writes to_messages result (M.contents output.old) (M.contents output.new) (message number bad) }
+{
+    memory.clear();
+    writeln!(memory, "line {number}: {bad}").map_err(|_| PlayError::Memory)?;
+    write_whole(output, memory.as_slice()).map_err(PlayError::Messages)
+}
