@@ -3,8 +3,8 @@
 use book::account::Account;
 use script::error::PlayError;
 use script::line::{Line, StoreKind};
-use script::parse::parse;
 use script::outputs::Outputs;
+use script::parse::parse;
 use script::play::play;
 use script::show::{AccountShown, FaultShown};
 use snapshot::account::{ChainReading, Reading, Write};
@@ -422,7 +422,7 @@ fn account_that_the_book_refuses_is_shown_with_that_refusal(rt: HostRuntime) -> 
 // Errors of input and output.
 
 // Outputs of which only what is printed is kept.
-fn only_printed<W: Write>(printed: W) -> Outputs<W, io::Sink, io::Sink> {
+fn only_printed<W: io::Write>(printed: W) -> Outputs<W, io::Sink, io::Sink> {
     Outputs {
         printed,
         book: io::sink(),
@@ -468,7 +468,11 @@ fn input_that_fails_ends_the_playing_after_the_lines_before(rt: HostRuntime) -> 
         assert!(rt;
             matches!(&played, Err(PlayError::Input(error)) if error.kind() == ErrorKind::Other)
         );
-        assert_eq!(rt; outputs.printed.as_slice(), expected.as_bytes(), "{readable}");
+        assert_eq!(rt;
+            outputs.printed.as_slice(),
+            expected.as_bytes(),
+            "{readable}"
+        );
     }
     let text = format!(in rt.alloc(); "{}", PlayError::Input(broken()))?;
     assert_eq!(rt; text.as_str(), "the script cannot be read: broken");
