@@ -4,4 +4,5 @@ pub mod BookProofs
 pub mod ListProofs
 pub mod WritingProofs
 pub mod PlayProofs
+pub mod LineProofs
 pub mod TraceProofs

@@ -38,7 +38,7 @@ true_false e = cc
 none_some : {X : Type 0} (x : X) → ◌≡◌ {A = Option X} None (Some x) → ⊥
 none_some x e = cc
 
-has_line : (b : ℕ) (bs : List ℕ) → next_parsed (b ∷ bs) ≡ Some (line_of (take_through 10 (b ∷ bs)))
+pub has_line : (b : ℕ) (bs : List ℕ) → next_parsed (b ∷ bs) ≡ Some (line_of (take_through 10 (b ∷ bs)))
 has_line b bs = grind (arith, nat_tests)
 
 ended : (rest : List ℕ) → next_parsed rest ≡ None → rest ≡ []
@@ -53,16 +53,6 @@ parsed [] l e = absurd (none_some l e)
 parsed (b ∷ bs) l e =
     let same = same_line (line_of (take_through 10 (b ∷ bs))) l (next_parsed (b ∷ bs)) (has_line b bs) e in
     ap (map line_of) (first_line (b ∷ bs) (omega arith)) ∙ ap (λ x. x ∷ parsed_lines (drop_through 10 (b ∷ bs))) same
-
--- some bytes were read, and they are the next line
-pub line_read : (left : Option (List ℕ)) (old items bytes : List ℕ) (count : ℕ) (l : Line) → old ≡ [] → (count ≡ 0 → ⊥) → length bytes ≡ count → IfSome left (λ rest. items ≡ old ++ take_through 10 rest) → bytes ≡ items → l ≡ line_of bytes → IfSome left (λ rest. Some l ≡ next_parsed rest)
-line_read None old items bytes count l empty some size reads same is = tt
-line_read (Some []) old items bytes count l empty some size reads same is =
-    let none : bytes ≡ [] = same ∙ rw empty at reads in
-    absurd (some (sym size ∙ ap length none))
-line_read (Some (b ∷ bs)) old items bytes count l empty some size reads same is =
-    let all : bytes ≡ take_through 10 (b ∷ bs) = same ∙ rw empty at reads in
-    ap Some (is ∙ ap line_of all) ∙ sym (has_line b bs)
 
 -- Fronts of texts.
 

@@ -4,6 +4,7 @@ pub mod BadLines
 pub mod Requests
 pub mod Lines
 pub mod Shown
+pub mod ReadLines
 pub mod Sinks
 pub mod Failures
 pub mod Played

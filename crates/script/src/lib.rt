@@ -4,6 +4,7 @@
 pub mod bad_line;
 pub mod error;
 pub mod line;
+mod line_reader;
 mod number;
 pub mod outputs;
 pub mod parse;

@@ -1,12 +1,9 @@
 //! The playing of a script: each call on one engine over one store, and what it came to.
-ghost use Rattle.std.specs.Prelude.{◌≡◌, ◌+◌, ◌^◌, ◌<◌, ◌∷◌, None, Some, IfOk, IfSome, OnOk, IfErr, if◌then◌else◌, ◌==◌, length, min};
-ghost use Rattle.std.specs.Io.BufRead.{drop_through, take_through};
-ghost use Rattle.std.specs.Io.KnownBytes.{Keeps};
+ghost use Rattle.std.specs.Prelude.{◌≡◌, ◌+◌, ◌∷◌, IfSome, length, min};
 ghost use Rattle.engine.specs.Engines.{engine_of};
 ghost use Rattle.engine.specs.Performing.{performed};
-ghost use Rattle.script.specs.Lines.{line_of};
 ghost use Rattle.script.specs.ScriptTraces.{PrintsTrace};
-ghost use Rattle.script.specs.Failures.{AddsAll, IsInput};
+ghost use Rattle.script.specs.Failures.{AddsAll};
 ghost use Rattle.script.specs.Played.{Prints, PrintsAll, after_line, booked, check_result, line_text, shown_result, played, played_on, printed, parsed_lines, result_parts, script_text, told};
 ghost use Rattle.script.specs.declared.line.Line.TheVariants as line;
 ghost use Rattle.script.specs.declared.line.StoreKind.TheVariants as kind;
@@ -17,8 +14,8 @@ ghost use Rattle.script.specs.Sinks.{held, to_book, to_messages, to_printed};
 use crate::bad_line::BadLine;
 use crate::error::PlayError;
 use crate::line::{Line, Request, StoreKind};
+use crate::line_reader::LineReader;
 use crate::outputs::Outputs;
-use crate::parse::parse;
 use crate::show::Outcome;
 use engine::answer::Answer;
 use engine::engine::Engine;
@@ -48,19 +45,19 @@ pub fn play<R: BufRead, W: Write, B: Write, M: Write>(
     ensures tells { Prints to_messages result 0 (R.Read.remaining input.old) (M.contents outputs.old.messages) (M.contents outputs.new.messages) told }
     ensures trace { IfSome (R.Read.remaining input.old) PrintsTrace }
 {
-    play_script(input, outputs, &mut Vec::new(heap))
+    play_script(&mut LineReader::new(input), outputs, &mut Vec::new(heap))
 }
 
 // Plays a script from its start. The memory is for a line, and for its text.
 fn play_script<R: BufRead, W: Write, B: Write, M: Write>(
-    input: &mut R,
+    input: &mut LineReader<R>,
     outputs: &mut Outputs<W, B, M>,
     memory: &mut Vec<u8>,
 ) -> Result<(), PlayError>
-    ensures { PrintsAll result 0 (R.Read.remaining input.old) (held W.contents B.contents M.contents outputs.old) (held W.contents B.contents M.contents outputs.new) script_text }
+    ensures { PrintsAll result 0 (R.Read.remaining input.old.source) (held W.contents B.contents M.contents outputs.old) (held W.contents B.contents M.contents outputs.new) script_text }
 {
     for lines in 0..u64::MAX {
-        let Some(line) = next_line(input, &mut outputs.printed, memory)? else {
+        let Some(line) = input.next_line(&mut outputs.printed, memory)? else {
             return Ok(());
         };
         let number = lines + 1;
@@ -74,34 +71,15 @@ fn play_script<R: BufRead, W: Write, B: Write, M: Write>(
     Err(PlayError::TooManyLines)
 }
 
-// What the next line says; none at the end of the input.
-fn next_line<R: BufRead, W: Write>(
-    input: &mut R,
-    printed: &mut W,
-    memory: &mut Vec<u8>,
-) -> Result<Option<Line>, PlayError>
-    ensures line { IfOk result (λ parsed. IfSome (R.Read.remaining input.old) (λ rest. parsed ≡ (if length rest == 0 then None else Some (line_of (take_through 10 rest))))) }
-    ensures rest { OnOk result (IfSome (R.Read.remaining input.old) (λ rest. R.Read.remaining input.new ≡ Some (drop_through 10 rest))) }
-    ensures cause { IfErr result IsInput }
-    ensures keeps { Keeps (W.contents printed.old) (W.contents printed.new) }
-{
-    memory.clear();
-    match input.read_until(b'\n', memory) {
-        Err(error) => Err(PlayError::Input(error)),
-        Ok(0) => Ok(None),
-        Ok(_) => Ok(Some(parse(memory.as_slice()))),
-    }
-}
-
 // Plays a script from the line that names its store.
 fn play_over<R: BufRead, W: Write, B: Write, M: Write>(
-    input: &mut R,
+    input: &mut LineReader<R>,
     outputs: &mut Outputs<W, B, M>,
     memory: &mut Vec<u8>,
     number: u64,
     kind: StoreKind,
 ) -> Result<(), PlayError>
-    ensures { PrintsAll result number (R.Read.remaining input.old) (held W.contents B.contents M.contents outputs.old) (held W.contents B.contents M.contents outputs.new) (λ k rest. played k number (line.Store kind ∷ parsed_lines rest)) }
+    ensures { PrintsAll result number (R.Read.remaining input.old.source) (held W.contents B.contents M.contents outputs.old) (held W.contents B.contents M.contents outputs.new) (λ k rest. played k number (line.Store kind ∷ parsed_lines rest)) }
 {
     match kind {
         StoreKind::Newest => {
@@ -131,7 +109,7 @@ fn play_over<R: BufRead, W: Write, B: Write, M: Write>(
 // Plays a script from the line that names a table of so many records, which lie in this memory. Where the table refuses
 // the memory, that is written, and the script goes on over the store that it gives.
 fn play_over_table<R: BufRead, W: Write, B: Write, M: Write>(
-    input: &mut R,
+    input: &mut LineReader<R>,
     outputs: &mut Outputs<W, B, M>,
     memory: &mut Vec<u8>,
     number: u64,
@@ -139,7 +117,7 @@ fn play_over_table<R: BufRead, W: Write, B: Write, M: Write>(
     table: &mut [Record],
 ) -> Result<(), PlayError>
     requires { length table.old ≡ min records most_records }
-    ensures { PrintsAll result number (R.Read.remaining input.old) (held W.contents B.contents M.contents outputs.old) (held W.contents B.contents M.contents outputs.new) (λ k rest. played k number (line.Store (kind.Table records) ∷ parsed_lines rest)) }
+    ensures { PrintsAll result number (R.Read.remaining input.old.source) (held W.contents B.contents M.contents outputs.old) (held W.contents B.contents M.contents outputs.new) (λ k rest. played k number (line.Store (kind.Table records) ∷ parsed_lines rest)) }
 {
     outputs.write_outcome(
         memory,
@@ -157,13 +135,13 @@ fn play_over_table<R: BufRead, W: Write, B: Write, M: Write>(
 
 // Plays a script from its first call, which no store's line stands before: over a table of the most records.
 fn play_from<R: BufRead, W: Write, B: Write, M: Write>(
-    input: &mut R,
+    input: &mut LineReader<R>,
     outputs: &mut Outputs<W, B, M>,
     memory: &mut Vec<u8>,
     number: u64,
     first: Request,
 ) -> Result<(), PlayError>
-    ensures { PrintsAll result number (R.Read.remaining input.old) (held W.contents B.contents M.contents outputs.old) (held W.contents B.contents M.contents outputs.new) (λ k rest. played k number (line.Call first ∷ parsed_lines rest)) }
+    ensures { PrintsAll result number (R.Read.remaining input.old.source) (held W.contents B.contents M.contents outputs.old) (held W.contents B.contents M.contents outputs.new) (λ k rest. played k number (line.Call first ∷ parsed_lines rest)) }
 {
     let mut table = [NO_RECORD; MOST_RECORDS];
     let mut engine = Engine::new(Table::new(&mut table));
@@ -173,16 +151,16 @@ fn play_from<R: BufRead, W: Write, B: Write, M: Write>(
 
 // Plays the lines that are left; so many were read before them.
 fn play_on<R: BufRead, W: Write, B: Write, M: Write, S: Store>(
-    input: &mut R,
+    input: &mut LineReader<R>,
     outputs: &mut Outputs<W, B, M>,
     memory: &mut Vec<u8>,
     lines: u64,
     engine: &mut Engine<S>,
 ) -> Result<(), PlayError>
-    ensures { PrintsAll result lines (R.Read.remaining input.old) (held W.contents B.contents M.contents outputs.old) (held W.contents B.contents M.contents outputs.new) (λ k rest. played_on k S.Store.DEPTH (engine_of S.Reads.meaning engine.old) (lines + 1) (parsed_lines rest)) }
+    ensures { PrintsAll result lines (R.Read.remaining input.old.source) (held W.contents B.contents M.contents outputs.old) (held W.contents B.contents M.contents outputs.new) (λ k rest. played_on k S.Store.DEPTH (engine_of S.Reads.meaning engine.old) (lines + 1) (parsed_lines rest)) }
 {
     for before in lines..u64::MAX {
-        let Some(line) = next_line(input, &mut outputs.printed, memory)? else {
+        let Some(line) = input.next_line(&mut outputs.printed, memory)? else {
             return Ok(());
         };
         play_line(outputs, memory, engine, before + 1, line)?;

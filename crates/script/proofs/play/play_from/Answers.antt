@@ -17,7 +17,7 @@ returns g c =
     λ k. line_then k
     c.play_on.result
     c.args.number
-    (g.R.Read.remaining c.args.input.now)
+    (g.R.Read.remaining c.args.input.now.source)
     (out c.args.outputs.now k)
     (out c.perform.new.outputs k)
     (out c.play_on.new.outputs k)
@@ -36,7 +36,7 @@ returns-in_err-perform g c =
     c.from_residual.result
     c.in_err-perform.field-0.0
     c.args.number
-    (g.R.Read.remaining c.args.input.now)
+    (g.R.Read.remaining c.args.input.now.source)
     (out c.args.outputs.now k)
     (out c.perform.new.outputs k)
     (result_parts (request_text c.args.first) (shown_result (performed record_depth c.args.first.call (engine_of (λ t. table_meaning t.memory.now t.kept t.last) c.new-engine.result)).0) k)

@@ -14,8 +14,8 @@ returns-in_default g c =
     let read = out (record outputs { printed = c.next_line.new.printed }) in
     let kept = flushed (g.W.Write.contents outputs.printed) (g.B.Write.contents outputs.book) (g.M.Write.contents outputs.messages) (g.W.Write.contents c.next_line.new.printed) c.next_line.ensures.keeps in
     λ k. ends
-    (g.R.Read.remaining c.args.input.now)
-    (g.R.Read.remaining c.loop-before.input)
+    (g.R.Read.remaining c.args.input.now.source)
+    (g.R.Read.remaining c.loop-before.input.source)
     (out c.args.outputs.now k)
     (out outputs k)
     (read k)
@@ -40,8 +40,8 @@ returns-in_err-line g c =
     λ k. unread k
     c.from_residual.result
     c.in_err-line.field-0.0
-    (g.R.Read.remaining c.args.input.now)
-    (g.R.Read.remaining c.loop-before.input)
+    (g.R.Read.remaining c.args.input.now.source)
+    (g.R.Read.remaining c.loop-before.input.source)
     (out c.args.outputs.now k)
     (out outputs k)
     (read k)
@@ -66,9 +66,9 @@ returns-in_err-play_line g c =
     λ k. unwritten k
     c.from_residual-in_err-play_line.result
     c.in_err-play_line.field-0.0
-    (g.R.Read.remaining c.args.input.now)
-    (g.R.Read.remaining c.loop-before.input)
-    (g.R.Read.remaining c.next_line.new.input)
+    (g.R.Read.remaining c.args.input.now.source)
+    (g.R.Read.remaining c.loop-before.input.source)
+    (g.R.Read.remaining c.next_line.new.self.source)
     (out c.args.outputs.now k)
     (out outputs k)
     (read k)
@@ -103,9 +103,9 @@ loop-before-preserved g c =
     let read = out (record outputs { printed = c.next_line.new.printed }) in
     let kept = flushed (g.W.Write.contents outputs.printed) (g.B.Write.contents outputs.book) (g.M.Write.contents outputs.messages) (g.W.Write.contents c.next_line.new.printed) c.next_line.ensures.keeps in
     λ k. steps
-    (g.R.Read.remaining c.args.input.now)
-    (g.R.Read.remaining c.loop-before.input)
-    (g.R.Read.remaining c.next_line.new.input)
+    (g.R.Read.remaining c.args.input.now.source)
+    (g.R.Read.remaining c.loop-before.input.source)
+    (g.R.Read.remaining c.next_line.new.self.source)
     (out c.args.outputs.now k)
     (out outputs k)
     (read k)
@@ -134,8 +134,8 @@ pub returns : goal.returns
 returns g c =
     let out = held g.W.Write.contents g.B.Write.contents g.M.Write.contents in
     λ k. uncounted k
-    (g.R.Read.remaining c.args.input.now)
-    (g.R.Read.remaining c.loop-before.input)
+    (g.R.Read.remaining c.args.input.now.source)
+    (g.R.Read.remaining c.loop-before.input.source)
     (out c.args.outputs.now k)
     (out c.loop-before.outputs k)
     (λ first. played_on k g.S.Store.DEPTH (engine_of g.S.Reads.meaning c.args.engine.now) (c.args.lines + 1) (parsed_lines first))

@@ -10,8 +10,8 @@ abbrev pub invariant-loop-before : goal.invariant-loop-before
 invariant-loop-before g l =
     (k : Sink) →
     Playing
-    (g.R.Read.remaining l.initial.input)
-    (g.R.Read.remaining l.input)
+    (g.R.Read.remaining l.initial.input.source)
+    (g.R.Read.remaining l.input.source)
     (held g.W.Write.contents g.B.Write.contents g.M.Write.contents l.initial.outputs k)
     (held g.W.Write.contents g.B.Write.contents g.M.Write.contents l.outputs k)
     (λ first. played_on k g.S.Store.DEPTH (engine_of g.S.Reads.meaning l.initial.engine) (l.lines + 1) (parsed_lines first))

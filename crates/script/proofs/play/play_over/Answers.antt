@@ -19,7 +19,7 @@ returns-in_ok-write_outcome-in-Newest g c =
     λ k. line_then k
     c.play_on.result
     c.args.number
-    (g.R.Read.remaining c.args.input.now)
+    (g.R.Read.remaining c.args.input.now.source)
     (out c.args.outputs.now k)
     (out c.write_outcome.new.self k)
     (out c.play_on.new.outputs k)
@@ -38,7 +38,7 @@ returns-in_err-write_outcome-in-Newest g c =
     c.from_residual.result
     c.in_err-write_outcome-in-Newest.field-0.0
     c.args.number
-    (g.R.Read.remaining c.args.input.now)
+    (g.R.Read.remaining c.args.input.now.source)
     (out c.args.outputs.now k)
     (out c.write_outcome.new.self k)
     (result_parts (store_text c.args.kind) (Ok answer.Done) k)

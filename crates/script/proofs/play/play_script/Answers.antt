@@ -15,8 +15,8 @@ returns-in_default g c =
     let read = out (record outputs { printed = c.next_line.new.printed }) in
     let kept = flushed (g.W.Write.contents outputs.printed) (g.B.Write.contents outputs.book) (g.M.Write.contents outputs.messages) (g.W.Write.contents c.next_line.new.printed) c.next_line.ensures.keeps in
     λ k. ends
-    (g.R.Read.remaining c.args.input.now)
-    (g.R.Read.remaining c.loop-lines.input)
+    (g.R.Read.remaining c.args.input.now.source)
+    (g.R.Read.remaining c.loop-lines.input.source)
     (out c.args.outputs.now k)
     (out outputs k)
     (read k)
@@ -42,9 +42,9 @@ returns-in_err-write_bad-in-Bad g c =
     λ k. unwritten k
     c.from_residual-in_err-write_bad-in-Bad.result
     c.in_err-write_bad-in-Bad.field-0.0
-    (g.R.Read.remaining c.args.input.now)
-    (g.R.Read.remaining c.loop-lines.input)
-    (g.R.Read.remaining c.next_line.new.input)
+    (g.R.Read.remaining c.args.input.now.source)
+    (g.R.Read.remaining c.loop-lines.input.source)
+    (g.R.Read.remaining c.next_line.new.self.source)
     (out c.args.outputs.now k)
     (out outputs k)
     (read k)
@@ -75,9 +75,9 @@ returns-in-Store g c =
     let kept = flushed (g.W.Write.contents outputs.printed) (g.B.Write.contents outputs.book) (g.M.Write.contents outputs.messages) (g.W.Write.contents c.next_line.new.printed) c.next_line.ensures.keeps in
     λ k. closes k
     c.play_over.result
-    (g.R.Read.remaining c.args.input.now)
-    (g.R.Read.remaining c.loop-lines.input)
-    (g.R.Read.remaining c.next_line.new.input)
+    (g.R.Read.remaining c.args.input.now.source)
+    (g.R.Read.remaining c.loop-lines.input.source)
+    (g.R.Read.remaining c.next_line.new.self.source)
     (out c.args.outputs.now k)
     (out outputs k)
     (read k)
@@ -106,9 +106,9 @@ returns-in-Call g c =
     let kept = flushed (g.W.Write.contents outputs.printed) (g.B.Write.contents outputs.book) (g.M.Write.contents outputs.messages) (g.W.Write.contents c.next_line.new.printed) c.next_line.ensures.keeps in
     λ k. closes k
     c.play_from.result
-    (g.R.Read.remaining c.args.input.now)
-    (g.R.Read.remaining c.loop-lines.input)
-    (g.R.Read.remaining c.next_line.new.input)
+    (g.R.Read.remaining c.args.input.now.source)
+    (g.R.Read.remaining c.loop-lines.input.source)
+    (g.R.Read.remaining c.next_line.new.self.source)
     (out c.args.outputs.now k)
     (out outputs k)
     (read k)
@@ -137,9 +137,9 @@ loop-lines-preserved g c =
     let kept = flushed (g.W.Write.contents outputs.printed) (g.B.Write.contents outputs.book) (g.M.Write.contents outputs.messages) (g.W.Write.contents c.next_line.new.printed) c.next_line.ensures.keeps in
     λ k. elim c.match-line.branch [
       | in-Blank w ↦ steps
-          (g.R.Read.remaining c.args.input.now)
-          (g.R.Read.remaining c.loop-lines.input)
-          (g.R.Read.remaining c.next_line.new.input)
+          (g.R.Read.remaining c.args.input.now.source)
+          (g.R.Read.remaining c.loop-lines.input.source)
+          (g.R.Read.remaining c.next_line.new.self.source)
           (out c.args.outputs.now k)
           (out outputs k)
           (read k)
@@ -160,9 +160,9 @@ loop-lines-preserved g c =
           (rw w.outputs-is (Appends-nil (read k)))
           (λ rest lines. ap (played k number) lines)
       | in-Bad+in_ok-write_bad-in-Bad w ↦ steps
-          (g.R.Read.remaining c.args.input.now)
-          (g.R.Read.remaining c.loop-lines.input)
-          (g.R.Read.remaining c.next_line.new.input)
+          (g.R.Read.remaining c.args.input.now.source)
+          (g.R.Read.remaining c.loop-lines.input.source)
+          (g.R.Read.remaining c.next_line.new.self.source)
           (out c.args.outputs.now k)
           (out outputs k)
           (read k)
@@ -194,8 +194,8 @@ returns-in_err-line g c =
     λ k. unread k
     c.from_residual.result
     c.in_err-line.field-0.0
-    (g.R.Read.remaining c.args.input.now)
-    (g.R.Read.remaining c.loop-lines.input)
+    (g.R.Read.remaining c.args.input.now.source)
+    (g.R.Read.remaining c.loop-lines.input.source)
     (out c.args.outputs.now k)
     (out outputs k)
     (read k)
@@ -212,8 +212,8 @@ pub returns : goal.returns
 returns g c =
     let out = held g.W.Write.contents g.B.Write.contents g.M.Write.contents in
     λ k. uncounted k
-    (g.R.Read.remaining c.args.input.now)
-    (g.R.Read.remaining c.loop-lines.input)
+    (g.R.Read.remaining c.args.input.now.source)
+    (g.R.Read.remaining c.loop-lines.input.source)
     (out c.args.outputs.now k)
     (out c.loop-lines.outputs k)
     (script_text k)

@@ -9,8 +9,8 @@ abbrev pub invariant-loop-lines : goal.invariant-loop-lines
 invariant-loop-lines g l =
     (k : Sink) →
     Playing
-    (g.R.Read.remaining l.initial.input)
-    (g.R.Read.remaining l.input)
+    (g.R.Read.remaining l.initial.input.source)
+    (g.R.Read.remaining l.input.source)
     (held g.W.Write.contents g.B.Write.contents g.M.Write.contents l.initial.outputs k)
     (held g.W.Write.contents g.B.Write.contents g.M.Write.contents l.outputs k)
     (script_text k)
