@@ -1,8 +1,15 @@
 //! Plays the scripts of data/, each behind a line with its name; what they must print was computed by other
 //! implementations of the rules, never by this program. The tests of lines, of what is shown and of the playing stand in
-//! `tests`.
+//! `tests`, those of why a line is bad in `bad_lines`, those of the three outputs in `outputs`, and those of when what was printed
+//! is passed on in `passing_on`.
 #![tactic(auto)]
 
+#[cfg(test)]
+mod bad_lines;
+#[cfg(test)]
+mod outputs;
+#[cfg(test)]
+mod passing_on;
 mod scripts;
 #[cfg(test)]
 mod tests;

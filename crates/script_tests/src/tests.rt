@@ -16,7 +16,10 @@ use std::process::Abort;
 use std::test::Fail;
 
 // What the script writes to each output.
-fn played(heap: Global, script: &[u8]) -> Result<Outputs<Vec<u8>, Vec<u8>, Vec<u8>>, PlayError> {
+pub(crate) fn played(
+    heap: Global,
+    script: &[u8],
+) -> Result<Outputs<Vec<u8>, Vec<u8>, Vec<u8>>, PlayError> {
     let mut outputs = Outputs {
         printed: Vec::new(heap),
         book: Vec::new(heap),
@@ -422,7 +425,7 @@ fn account_that_the_book_refuses_is_shown_with_that_refusal(rt: HostRuntime) -> 
 // Errors of input and output.
 
 // Outputs of which only what is printed is kept.
-fn only_printed<W: io::Write>(printed: W) -> Outputs<W, io::Sink, io::Sink> {
+pub(crate) fn only_printed<W: io::Write>(printed: W) -> Outputs<W, io::Sink, io::Sink> {
     Outputs {
         printed,
         book: io::sink(),
@@ -434,7 +437,7 @@ fn only_printed<W: io::Write>(printed: W) -> Outputs<W, io::Sink, io::Sink> {
 #[derive(Drop)]
 struct BrokenReader;
 
-fn broken() -> io::Error {
+pub(crate) fn broken() -> io::Error {
     io::Error::other("broken")
 }
 
@@ -486,13 +489,13 @@ const THREE_LINES_PRINTED: &[u8] = b"count -> waiting 0 lost 0\nbad 2\ncount -> 
 // A writer that takes this many bytes at most of each write, has room for so many in all, and then fails, by an error or
 // by taking none. Where it is interrupted, every other write is.
 #[derive(Drop)]
-struct NarrowWriter {
-    taken: Vec<u8>,
-    room: usize,
-    most: usize,
-    fails: bool,
-    interrupts: bool,
-    is_interrupted: bool,
+pub(crate) struct NarrowWriter {
+    pub(crate) taken: Vec<u8>,
+    pub(crate) room: usize,
+    pub(crate) most: usize,
+    pub(crate) fails: bool,
+    pub(crate) interrupts: bool,
+    pub(crate) is_interrupted: bool,
 }
 
 impl io::Write for NarrowWriter {
@@ -515,7 +518,7 @@ impl io::Write for NarrowWriter {
     }
 }
 
-fn narrow(heap: Global, room: usize, most: usize) -> NarrowWriter {
+pub(crate) fn narrow(heap: Global, room: usize, most: usize) -> NarrowWriter {
     NarrowWriter {
         taken: Vec::new(heap),
         room,
