@@ -1,6 +1,8 @@
 //! Tests of the book's writer and reader: what is written, every refusal with its number and place, and the order of checks.
-use book::{Account, Listing, last_byte, list_book, read_account, read_book};
-use snapshot::{AccountHead, BookFault, ChainReading, Interval, Layer, NO_READING, NO_WRITE, Reading, Write};
+use book::{Account, Extent, Listing, last_byte, list_book, read_account, read_book};
+use snapshot::{
+    AccountHead, BookFault, ChainReading, Interval, Layer, NO_READING, NO_WRITE, Reading, Write,
+};
 use std::alloc::Global;
 use std::io::{self, ErrorKind};
 use std::process::Abort;
@@ -458,7 +460,8 @@ fn lists(rt: &(impl Abort + AllocGlobal), book: &[u8], text: &str) -> Result<(),
     };
     assert_eq!(rt; format!(in rt.alloc(); "{listing}")?.as_str(), text);
     let mut output = Vec::new(rt.alloc());
-    list_book(rt.alloc(), book, &mut output)?;
+    let extent = list_book(rt.alloc(), book, &mut output)?;
+    assert_eq!(rt; extent, Extent::Whole);
     assert_eq!(rt; output.as_slice(), text.as_bytes());
     Ok(())
 }
@@ -507,10 +510,24 @@ fn shortest_lines(heap: Global, count: usize, last: &str) -> io::Result<Vec<u8>>
 fn input_is_cut_within_an_account(rt: HostRuntime) -> Result<(), Fail> {
     let book = shortest_accounts(rt.alloc(), 2_300)?;
     let mut output = b"before\n".to_vec(rt.alloc())?;
-    list_book(rt.alloc(), book.as_slice(), &mut output)?;
+    let extent = list_book(rt.alloc(), book.as_slice(), &mut output)?;
+    assert_eq!(rt; extent, Extent::Front);
     let expected = shortest_lines(rt.alloc(), 2_259, "bad 18 65511\n")?;
     assert_eq!(rt; &output[..7], b"before\n".as_slice());
     assert!(rt; output[7..] == expected[..]);
+    Ok(())
+}
+
+// 65,536 bytes are all listed; of one more it is told.
+#[test]
+fn one_byte_more_is_told(rt: HostRuntime) -> Result<(), Fail> {
+    for (bytes, extent) in [(65_536, Extent::Whole), (65_537, Extent::Front)] {
+        let book = vec![in rt.alloc(); 0; bytes]?;
+        let mut output = Vec::new(rt.alloc());
+        let listed = list_book(rt.alloc(), book.as_slice(), &mut output)?;
+        assert_eq!(rt; listed, extent, "{bytes} bytes");
+        assert_eq!(rt; output.as_slice(), b"bad 19 0\n".as_slice());
+    }
     Ok(())
 }
 

@@ -18,11 +18,13 @@ pub const REPORT: u8 = 12;
 /// The control room's own worker.
 pub const FRONT: u8 = 6;
 
-/// The workers that look at the zone, at the set record and at the keyholder, each at the first attempt.
+/// The worker that looks at the zone at the first attempt.
 pub const ZONE_WORKER: u8 = 1;
 
+/// The worker that looks at the set record at the first attempt.
 pub const SET_WORKER: u8 = 2;
 
+/// The worker that looks at the keyholder at the first attempt.
 pub const KEYHOLDER_WORKER: u8 = 3;
 
 /// The place of every chain here: one is open at a time.

@@ -4,8 +4,11 @@ use crate::builders::{answers, begin, fork, join, made, put, read, write};
 use book::{Account, AccountAt, read_account};
 use engine::Engine;
 use newest_store::Newest;
-use snapshot::{AccountHead, BookFault, CHAIN_READINGS, ChainReading, Interval, NO_READING, NO_WRITE, OPEN_END, WRITE_KEYS, Write};
 use snapshot::Refusal::AccountCut;
+use snapshot::{
+    AccountHead, BookFault, CHAIN_READINGS, ChainReading, Interval, NO_READING, NO_WRITE, OPEN_END,
+    WRITE_KEYS, Write,
+};
 use std::process::Abort;
 use store::Store;
 

@@ -2,7 +2,10 @@
 //! of them.
 use engine::{Answer, Engine};
 use engine_model::Call;
-use snapshot::{AccountHead, CHAIN_READINGS, ChainReading, EngineFault, Fault, Interval, Layer, NOT_NAMED, OPEN_END, Reading, Refusal, WRITE_KEYS, Write};
+use snapshot::{
+    AccountHead, CHAIN_READINGS, ChainReading, EngineFault, Fault, Interval, Layer, NOT_NAMED,
+    OPEN_END, Reading, Refusal, WRITE_KEYS, Write,
+};
 use std::process::Abort;
 use store::Store;
 

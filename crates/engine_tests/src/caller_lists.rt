@@ -7,8 +7,11 @@ use crate::builders::{
 use engine::Engine;
 use engine_model::Call::Count;
 use newest_store::Newest;
-use snapshot::{AccountHead, ChainReading, EngineFault, Fault, Interval, Layer, OPEN_END, Reading, Refusal, Write};
 use snapshot::Refusal::{AnotherLegOpen, ClockTooHigh, NotOpen, PlaceOccupied, TooShort};
+use snapshot::{
+    AccountHead, ChainReading, EngineFault, Fault, Interval, Layer, OPEN_END, Reading, Refusal,
+    Write,
+};
 use std::process::Abort;
 
 // What stands in the lists before.

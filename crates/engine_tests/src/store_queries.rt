@@ -9,10 +9,10 @@ use crate::watched_store::{NONE, Queries, Watched, one_commit, one_prune, versio
 use engine::Engine;
 use engine_model::Call;
 use newest_store::Newest;
-use snapshot::{KEYS, OPEN_END, Write};
 use snapshot::Refusal::{
     AnotherLegOpen, ClockTooHigh, NoTimeLeft, NotOpen, OutOfRange, ReadingsFull, TooShort,
 };
+use snapshot::{KEYS, OPEN_END, Write};
 use std::ops::Range;
 use std::process::Abort;
 use store::Store;

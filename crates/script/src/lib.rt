@@ -1,15 +1,23 @@
 //! Scripts of engine calls: what a line says, how a call and its answer are shown, and the playing of a script.
 #![tactic(auto)]
 
-pub mod bad_line;
-pub mod error;
-pub mod line;
+mod bad_line;
+mod error;
+mod line;
 mod line_reader;
 mod number;
-pub mod outputs;
-pub mod parse;
-pub mod play;
+mod outputs;
+mod parsing;
+mod playing;
 mod request;
-pub mod show;
+mod show;
 mod words;
 mod writing;
+
+pub use bad_line::{BadLine, Wanted};
+pub use error::PlayError;
+pub use line::{Line, Request, StoreKind};
+pub use outputs::Outputs;
+pub use parsing::parse;
+pub use playing::play;
+pub use show::{AccountShown, FaultShown, Outcome};

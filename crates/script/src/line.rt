@@ -1,12 +1,14 @@
 //! What a line of a script says.
 
 use crate::bad_line::BadLine;
-use engine_model::calls::Call;
+use engine_model::Call;
 
 /// The kind of store that a script asks for; a table has so many records, 0 to 1,024.
 #[derive(Clone, Copy)]
 pub enum StoreKind {
+    /// The newest store.
     Newest,
+    /// A table in memory of so many records.
     Table { records: usize },
 }
 
@@ -14,7 +16,9 @@ pub enum StoreKind {
 /// chain may hold.
 #[derive(Clone, Copy)]
 pub struct Request {
+    /// The call.
     pub call: Call,
+    /// Does a commit name the rooms of its lists?
     pub names_rooms: bool,
 }
 

@@ -9,7 +9,7 @@ ghost use Rattle.script.specs.declared.line_reader.Part.TheVariants as part;
 
 use crate::error::PlayError;
 use crate::line::Line;
-use crate::parse::parse;
+use crate::parsing::parse;
 use memchr::memchr;
 use std::io::{self, BufRead, ErrorKind, Write};
 

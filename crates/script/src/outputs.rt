@@ -10,8 +10,8 @@ use crate::bad_line::BadLine;
 use crate::error::PlayError;
 use crate::show::{LONGEST_ACCOUNT, Outcome, account_of, book_bytes};
 use crate::writing::{write_bad, write_outcome};
-use book::output::write_whole;
-use engine::answer::Answer;
+use book::write_whole;
+use engine::Answer;
 use std::fmt;
 use std::io::Write;
 

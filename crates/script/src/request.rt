@@ -6,8 +6,8 @@ ghost use Rattle.script.specs.Requests as spec;
 use crate::bad_line::{BadLine, Wanted};
 use crate::line::Request;
 use crate::number::number_in;
-use engine_model::calls::Call;
-use snapshot::limits::{CHAIN_READINGS, WRITE_KEYS};
+use engine_model::Call;
+use snapshot::{CHAIN_READINGS, WRITE_KEYS};
 
 // The call with this word and these words behind it, if there is such a call, with so many numbers, each in its range.
 pub(crate) fn request(word: &[u8], operands: &[&[u8]]) -> Result<Request, BadLine>

@@ -8,12 +8,12 @@ ghost use Rattle.book.specs.Format.{account_bytes, as_account};
 ghost use Rattle.script.specs.Shown as spec;
 
 use crate::line::{Request, StoreKind};
-use book::account::Account;
-use engine::answer::{Answer, CommittedAccount};
-use engine_model::calls::Call;
-use snapshot::account::{AccountHead, ChainReading, Reading, Write};
-use snapshot::fault::{Fault, Layer};
-use snapshot::limits::{CHAIN_READINGS, WRITE_KEYS};
+use book::Account;
+use engine::{Answer, CommittedAccount};
+use engine_model::Call;
+use snapshot::{
+    AccountHead, CHAIN_READINGS, ChainReading, Fault, Layer, Reading, WRITE_KEYS, Write,
+};
 use std::fmt;
 
 impl fmt::Display for StoreKind {

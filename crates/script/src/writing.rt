@@ -6,7 +6,7 @@ ghost use Rattle.script.specs.Sinks.{to_printed};
 
 use crate::error::PlayError;
 use crate::show::Outcome;
-use book::output::write_whole;
+use book::write_whole;
 use std::fmt;
 use std::io::Write;
 

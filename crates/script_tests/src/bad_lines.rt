@@ -1,8 +1,6 @@
 //! Tests of why a line is bad: each reason with its text, and which of several is told.
 use crate::tests::played;
-use script::bad_line::{BadLine, Wanted};
-use script::line::Line;
-use script::parse::parse;
+use script::{BadLine, Line, Wanted, parse};
 use std::process::Abort;
 use std::test::Fail;
 

@@ -15,8 +15,7 @@ mod scripts;
 mod tests;
 
 use crate::scripts::SCRIPTS;
-use script::outputs::Outputs;
-use script::play::play;
+use script::{Outputs, play};
 use std::fs;
 use std::io::{self, BufWriter, Write};
 

@@ -1,11 +1,8 @@
 //! Tests of the three outputs: what the book gains, and which output is written first.
 use crate::tests::{NarrowWriter, broken, narrow, played};
-use book::listing::read_book;
-use script::error::PlayError;
-use script::outputs::Outputs;
-use script::play::play;
-use snapshot::account::AccountHead;
-use snapshot::interval::Interval;
+use book::read_book;
+use script::{Outputs, PlayError, play};
+use snapshot::{AccountHead, Interval};
 use std::alloc::Global;
 use std::test::Fail;
 

@@ -1,7 +1,6 @@
 //! Tests of when what was printed is passed on: before each read that may wait, and at no other time.
 use crate::tests::{broken, only_printed, played};
-use script::error::PlayError;
-use script::play::play;
+use script::{PlayError, play};
 use std::alloc::Global;
 use std::io::{self, BufWriter, ErrorKind, Write};
 use std::test::Fail;

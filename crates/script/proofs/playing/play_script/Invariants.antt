@@ -3,7 +3,7 @@ use Rattle.std.proofs.Common.{◌+◌}
 use Rattle.script.specs.Played.{parsed_lines, played, script_text}
 use Rattle.script.specs.Sinks.{Sink, held}
 use Rattle.script.proofs.PlayProofs.{Playing}
-use Rattle.script.proofs.play.play_script.Given as goal
+use Rattle.script.proofs.playing.play_script.Given as goal
 
 abbrev pub invariant-loop-lines : goal.invariant-loop-lines
 invariant-loop-lines g l =

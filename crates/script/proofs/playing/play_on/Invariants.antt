@@ -4,7 +4,7 @@ use Rattle.engine.specs.Engines.{engine_of}
 use Rattle.script.specs.Played.{parsed_lines, played_on}
 use Rattle.script.specs.Sinks.{Sink, held}
 use Rattle.script.proofs.PlayProofs.{Playing}
-use Rattle.script.proofs.play.play_on.Given as goal
+use Rattle.script.proofs.playing.play_on.Given as goal
 
 abbrev pub invariant-loop-before : goal.invariant-loop-before
 invariant-loop-before g l =

@@ -1,7 +1,7 @@
 -- Each output by itself.
 use Rattle.std.proofs.Common.{◌≡◌}
 use Rattle.script.specs.Sinks.{to_printed, to_book, to_messages}
-use Rattle.script.proofs.play.play.Goals as goal
+use Rattle.script.proofs.playing.play.Goals as goal
 
 pub returns-clause-prints : goal.returns-clause-prints
 returns-clause-prints g c = rw c.new.ensures at (c.play_script.ensures to_printed)

@@ -9,7 +9,7 @@ use Rattle.script.specs.Shown.{request_text}
 use Rattle.script.specs.Sinks.{held}
 use Rattle.script.specs.declared.line.Line.TheVariants as line
 use Rattle.script.proofs.PlayProofs.{line_then, line_unwritten}
-use Rattle.script.proofs.play.play_from.Goals as goal
+use Rattle.script.proofs.playing.play_from.Goals as goal
 
 pub returns : goal.returns
 returns g c =

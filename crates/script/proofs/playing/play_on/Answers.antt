@@ -5,7 +5,7 @@ use Rattle.engine.specs.Engines.{engine_of}
 use Rattle.script.specs.Played.{line_text, parsed_lines, played_on}
 use Rattle.script.specs.Sinks.{Sink, held}
 use Rattle.script.proofs.PlayProofs.{flushed, ends, steps, uncounted, unread, unwritten}
-use Rattle.script.proofs.play.play_on.Goals as goal
+use Rattle.script.proofs.playing.play_on.Goals as goal
 
 pub returns-in_default : goal.returns-in_default
 returns-in_default g c =

@@ -17,16 +17,13 @@ use crate::line::{Line, Request, StoreKind};
 use crate::line_reader::LineReader;
 use crate::outputs::Outputs;
 use crate::show::Outcome;
-use engine::answer::Answer;
-use engine::engine::Engine;
-use newest_store::newest::Newest;
-use snapshot::fault::{EngineFault, Fault};
-use snapshot::limits::MOST_RECORDS;
+use engine::{Answer, Engine};
+use newest_store::Newest;
+use snapshot::{EngineFault, Fault, MOST_RECORDS};
 use std::alloc::Global;
 use std::io::{BufRead, Write};
-use store::traits::Store;
-use table_store::record::{NO_RECORD, Record};
-use table_store::table::Table;
+use store::Store;
+use table_store::{NO_RECORD, Record, Table};
 
 /// Plays the script that the input has, to its end. Each call is printed with what it came to, and each bad line with its
 /// number. The book gains the bytes of each account that is committed, before the line is printed. The messages gain a line for

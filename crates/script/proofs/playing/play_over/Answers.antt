@@ -11,7 +11,7 @@ use Rattle.script.specs.Shown.{store_text}
 use Rattle.script.specs.Sinks.{held}
 use Rattle.script.specs.declared.line.Line.TheVariants as line
 use Rattle.script.proofs.PlayProofs.{line_then, line_unwritten}
-use Rattle.script.proofs.play.play_over.Goals as goal
+use Rattle.script.proofs.playing.play_over.Goals as goal
 
 pub returns-in_ok-write_outcome-in-Newest : goal.returns-in_ok-write_outcome-in-Newest
 returns-in_ok-write_outcome-in-Newest g c =

@@ -6,7 +6,7 @@ use crate::bad_line::{BadLine, Wanted};
 use crate::line::{Line, StoreKind};
 use crate::request::{Operand, miscounted, request};
 use crate::words::{without_end, words_in};
-use snapshot::limits::MOST_RECORDS;
+use snapshot::MOST_RECORDS;
 
 /// What the line says; it may end with a newline or lack it. Any bytes are taken: a line is bad if it is neither blank,
 /// nor a store's, nor a call.

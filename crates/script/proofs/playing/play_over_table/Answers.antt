@@ -10,7 +10,7 @@ use Rattle.script.specs.Sinks.{held}
 use Rattle.script.specs.declared.line.Line.TheVariants as line
 use Rattle.script.specs.declared.line.StoreKind.TheVariants.{Table}
 use Rattle.script.proofs.PlayProofs.{line_then, line_unwritten}
-use Rattle.script.proofs.play.play_over_table.Goals as goal
+use Rattle.script.proofs.playing.play_over_table.Goals as goal
 
 pub returns : goal.returns
 returns g c =
