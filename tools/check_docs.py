@@ -9,7 +9,7 @@ A word in backquotes is taken for
 - `Module.name`, a definition or lemma of specs/Module.antt or proofs/Module.antt;
 - `Type::name`, where both are names of one file of the code;
 - else a name: of the code, the definitions or the proofs, of a crate, of a file without its ending, or of a must-fail edit.
-Passed over are blocks of code, text that is no name (commands, numbers, lines of scripts), and the words of KIT below.
+Passed over are blocks of code, what a build makes (below out/), what a reader is told to make (MADE below), text that is no name (commands, numbers, lines of scripts), and the words of KIT below.
 Left out are the records of moves to newer kits, which name what stood before.
 """
 
@@ -28,9 +28,12 @@ KIT = set(
     self Self let else match for while if impl trait struct enum pub fn const static mut ref use mod ghost requires ensures
     retain copy_within main io std anyhow arrayvec byteorder thiserror drop_through take_through AllByRecursion find find_map
     ContainsAt OnOk OnErr IfOk IfErr IfSome IsOk Appends output contents remaining write_all write_fmt read_to_end read_until
-    stdin stdout data HANDLES chunks_exact_mut MatchResult flat_map decimal codes rattle tactic auto using abbrev unfoldable
+    stdin stdout stderr data HANDLES chunks_exact_mut fill_buf clap memchr itoa hex MatchResult flat_map decimal codes rattle tactic auto using abbrev unfoldable
     """.split()
 )
+
+# What a reader is told to make, or to delete.
+MADE = {"first_chain", "crates/first_chain", "crates/first_chain/stdout", "src/clock.rt", "src/main.rt"}
 
 NAME = r"[A-Za-z_][A-Za-z0-9_]*"
 COMMENTS = {".rt": r"//.*", ".antt": r"(^|\s)--.*"}
@@ -85,6 +88,8 @@ class Repository:
         """None if the word is no name or path, else whether it is there."""
         if re.search(r"[\s<>=;,()\[\]{}#&|\"'$→≤×λ↔+−-]", word) or not re.search(r"[A-Za-z]", word):
             return None
+        if word in MADE or "out" in word.split("/"):
+            return None
         if is_path(word):
             return self.has_path(word) or word in self.names
         if "::" in word:
@@ -111,6 +116,18 @@ def cited(path):
                 yield number, word
 
 
+def anchors(path):
+    """What a link can name behind # in this page: its headings, in lower case, with dashes for spaces."""
+    headings = re.findall(r"^#+ (.*)$", read(path), flags=re.M)
+    return {re.sub(r"[^a-z0-9 _-]", "", heading.lower()).replace(" ", "-") for heading in headings}
+
+
+def is_target(path, link):
+    page, _, anchor = link.partition("#")
+    target = os.path.join(os.path.dirname(path), page) if page else path
+    return os.path.exists(target) and (not anchor or anchor in anchors(target))
+
+
 def main():
     repository = Repository()
     missing = 0
@@ -122,8 +139,8 @@ def main():
                 print(f"{path}:{number}: {word}")
                 missing += 1
         for number, line in enumerate(read(path).split("\n"), 1):
-            for link in re.findall(r"\]\(([^)#:]+)\)", line):
-                if not os.path.exists(os.path.join(os.path.dirname(path), link)):
+            for link in re.findall(r"\]\(([^):]+)\)", line):
+                if not is_target(path, link):
                     print(f"{path}:{number}: link to {link}")
                     missing += 1
     print(f"{missing} missing")

@@ -202,8 +202,8 @@ fn print_control_room(proved: &str, plain: &str, folder: &Path) -> Result<(), St
     }
     println!("control room, a script of {LINES} lines, {} bytes printed, nanoseconds a line:", printed.len());
     let of = |time: f64| time / LINES as f64;
-    println!("  proved {:.0}  plain, line by line {:.0}  ratio {:.2}", of(best.proved), of(best.plain), best.ratio());
-    println!("  plain, in batches {:.0}  ratio {:.2}", of(batched), batched / best.proved);
+    println!("  proved {:.0}  plain, in blocks {:.0}  ratio {:.2}", of(best.proved), of(batched), batched / best.proved);
+    println!("  plain, line by line {:.0}  ratio {:.2}", of(best.plain), best.ratio());
     Ok(())
 }
 
