@@ -2,6 +2,7 @@ pub mod NumberProofs
 pub mod HexProofs
 pub mod BookProofs
 pub mod ListProofs
+pub mod ShownProofs
 pub mod WritingProofs
 pub mod PlayProofs
 pub mod LineProofs

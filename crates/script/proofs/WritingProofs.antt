@@ -13,10 +13,9 @@ use Rattle.script.specs.declared.error.PlayError.{PlayError}
 use Rattle.script.specs.declared.error.PlayError.TheVariants.{Input, Output, Book, Messages, Memory, TooManyLines}
 
 -- nothing of a call's line was written
-pub no_memory : (call : Option (List ℕ)) (a : Option (List ℕ)) (outcome : Result Answer Fault) (r : Result (Unit {0}) PlayError) → r ≡ Err Memory → IfSome call (λ text. Writes to_printed r a a (result_line text outcome))
-no_memory None a outcome r failed = tt
-no_memory (Some text) a outcome r failed =
-    subst (λ r'. Writes to_printed r' a a (result_line text outcome)) (sym failed) ([], result_line text outcome, refl, (refl, omega (arith, length-append text)), Appends-nil a)
+pub no_memory : (a : Option (List ℕ)) (call : List ℕ) (outcome : Result Answer Fault) (r : Result (Unit {0}) PlayError) → r ≡ Err Memory → Writes to_printed r a a (result_line call outcome)
+no_memory a call outcome r failed =
+    subst (λ r'. Writes to_printed r' a a (result_line call outcome)) (sym failed) ([], result_line call outcome, refl, (refl, omega (arith, length-append call)), Appends-nil a)
 
 -- The three outputs, where the writing to one of them has ended with an error.
 
@@ -89,8 +88,3 @@ messages_failed r e p b m m' line told is some wrote = rw is (at_each (at_messag
     at_each h to_printed = none_yet to_printed e p line h.0 some
     at_each h to_book = whole to_book e b b [] h.0 h.1 (Appends-nil b)
     at_each h to_messages = part to_messages e m m' told h.0 wrote
-
--- where the text of the call is not known, nothing is said
-pub if_known : (call : Option (List ℕ)) (P : List ℕ → Type 0) → ((text : List ℕ) → call ≡ Some text → P text) → IfSome call P
-if_known None P h = tt
-if_known (Some text) P h = h text refl

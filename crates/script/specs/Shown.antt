@@ -34,6 +34,12 @@ four a b c d = spaced a (three b c d)
 abbrev pub five : ℕ → ℕ → ℕ → ℕ → ℕ → List ℕ
 five a b c d e = spaced a (four b c d e)
 
+-- numbers, each behind a space
+abbrev pub numbers_text : List ℕ → List ℕ
+numbers_text [] = []
+numbers_text (n ∷ []) = 32 ∷ decimal n
+numbers_text (n ∷ ns) = 32 ∷ (decimal n ++ numbers_text ns)
+
 -- a commit's rooms are shown only where they were named
 abbrev pub call_text : Bool → Call → List ℕ
 call_text rooms (call.Begin p w) = codes "begin " ++ two p w

@@ -1,9 +1,10 @@
 //! Scripts of engine calls: what a line says, how a call and its answer are shown, and the playing of a script.
 #![tactic(auto)]
 
-mod bad_line;
-mod error;
-mod line;
+pub mod append;
+pub mod bad_line;
+pub mod error;
+pub mod line;
 mod line_reader;
 mod number;
 mod outputs;

@@ -1,18 +1,17 @@
 //! The outputs of a playing, and what a call and a bad line add to each.
-ghost use Rattle.std.specs.Prelude.{IfSome};
 ghost use Rattle.script.specs.BadLines.{message};
 ghost use Rattle.script.specs.Failures.{AddsAll, Writes};
 ghost use Rattle.script.specs.Played.{bad_parts, result_parts};
 ghost use Rattle.script.specs.Shown.{booked_bytes};
 ghost use Rattle.script.specs.Sinks.{held, to_book, to_messages};
 
+use crate::append::Append;
 use crate::bad_line::BadLine;
 use crate::error::PlayError;
 use crate::show::{LONGEST_ACCOUNT, Outcome, account_of, book_bytes};
 use crate::writing::{write_bad, write_outcome};
-use book::write_whole;
-use engine::Answer;
-use std::fmt;
+use book::output::write_whole;
+use engine::answer::Answer;
 use std::io::Write;
 
 /// Where a playing writes.
@@ -28,15 +27,15 @@ pub struct Outputs<W, B, M> {
 
 impl<W: Write, B: Write, M: Write> Outputs<W, B, M> {
     // Writes an account into the book, and then the call and what it came to. The memory is for the text.
-    pub(crate) fn write_outcome<C: fmt::Display + Copy>(
+    pub(crate) fn write_outcome<C: Append>(
         &mut self,
         memory: &mut Vec<u8>,
-        call: C,
-        outcome: Outcome,
+        call: &C,
+        outcome: &Outcome,
     ) -> Result<(), PlayError>
-        ensures { IfSome (C.output call) (λ text. AddsAll result (held W.contents B.contents M.contents self.old) (held W.contents B.contents M.contents self.new) (result_parts text outcome.0)) }
+        ensures { AddsAll result (held W.contents B.contents M.contents self.old) (held W.contents B.contents M.contents self.new) (result_parts (C.text call.now) outcome.now.0) }
     {
-        write_account(&mut self.book, &outcome)?;
+        write_account(&mut self.book, outcome)?;
         write_outcome(&mut self.printed, memory, call, outcome)
     }
 

@@ -80,7 +80,7 @@ fn play_over<R: BufRead, W: Write, B: Write, M: Write>(
 {
     match kind {
         StoreKind::Newest => {
-            outputs.write_outcome(memory, kind, Outcome(Ok(Answer::Done)))?;
+            outputs.write_outcome(memory, &kind, &Outcome(Ok(Answer::Done)))?;
             play_on(
                 input,
                 outputs,
@@ -118,8 +118,8 @@ fn play_over_table<R: BufRead, W: Write, B: Write, M: Write>(
 {
     outputs.write_outcome(
         memory,
-        StoreKind::Table { records },
-        checked(Table::check(table)),
+        &StoreKind::Table { records },
+        &checked(Table::check(table)),
     )?;
     play_on(
         input,
@@ -195,7 +195,7 @@ fn perform<W: Write, B: Write, M: Write, S: Store>(
     ensures writes { AddsAll result (held W.contents B.contents M.contents outputs.old) (held W.contents B.contents M.contents outputs.new) (result_parts (request_text request) (shown_result (performed S.Store.DEPTH request.call (engine_of S.Reads.meaning engine.old)).0)) }
 {
     let outcome = outcome(engine.perform(request.call));
-    outputs.write_outcome(memory, request, outcome)
+    outputs.write_outcome(memory, &request, &outcome)
 }
 
 // Of an engine's fault the call's own is shown.

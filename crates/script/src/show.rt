@@ -1,59 +1,90 @@
 //! How calls, answers and refusals are shown.
-ghost use Rattle.std.specs.Prelude.{◌≡◌, true, false, Some, MatchResult};
+ghost use Rattle.std.specs.Prelude.{◌≡◌, ◌≤◌, ◌∷◌, ◌++◌, OnOk, true, false, length, MatchResult};
 ghost use Rattle.std.specs.List.{flat_map};
 ghost use Rattle.snapshot.specs.Accounts.{lawful};
 ghost use Rattle.snapshot.specs.Refusals.{book_fault};
+ghost use Rattle.snapshot.specs.Shown.{line_break};
 ghost use Rattle.snapshot.specs.declared.fault.Refusal.TheVariants as refusal;
 ghost use Rattle.book.specs.Format.{account_bytes, as_account};
 ghost use Rattle.script.specs.Shown as spec;
 
+use crate::append::{Append, append_numbers};
 use crate::line::{Request, StoreKind};
-use book::Account;
-use engine::{Answer, CommittedAccount};
-use engine_model::Call;
-use snapshot::{
-    AccountHead, CHAIN_READINGS, ChainReading, Fault, Layer, Reading, WRITE_KEYS, Write,
-};
-use std::fmt;
+use book::account::Account;
+use engine::answer::{Answer, CommittedAccount};
+use engine_model::calls::Call;
+use snapshot::account::{ChainReading, Reading, Write};
+use snapshot::fault::{Fault, Layer};
+use snapshot::limits::{CHAIN_READINGS, WRITE_KEYS};
+use std::alloc::AllocError;
 
-impl fmt::Display for StoreKind {
-    ghost output = { λ kind. Some (spec.store_text kind) };
+// The kind's word; of a table also how many records it has.
+impl Append for StoreKind {
+    ghost text = { spec.store_text };
 
-    fn fmt<W: fmt::Write>(&self, f: &mut fmt::Formatter<W>) -> fmt::Result {
+    fn append(&self, line: &mut Vec<u8>) -> Result<(), AllocError> {
         match *self {
-            StoreKind::Newest => write!(f, "store newest"),
-            StoreKind::Table { records } => write!(f, "store table {records}"),
+            StoreKind::Newest => line.extend_from_slice(b"store newest"),
+            StoreKind::Table { records } => append_numbers(b"store table", &[records as u64], line),
         }
     }
 }
 
 // The call's word and numbers, joined by single spaces; a commit's rooms where they were named.
-impl fmt::Display for Request {
-    ghost output = { λ request. Some (spec.request_text request) };
+impl Append for Request {
+    ghost text = { spec.request_text };
 
-    fn fmt<W: fmt::Write>(&self, f: &mut fmt::Formatter<W>) -> fmt::Result {
+    fn append(&self, line: &mut Vec<u8>) -> Result<(), AllocError> {
         match self.call {
-            Call::Begin { place, worker } => write!(f, "begin {place} {worker}"),
-            Call::Hand { place, leg, worker } => write!(f, "hand {place} {leg} {worker}"),
+            Call::Begin { place, worker } => {
+                append_numbers(b"begin", &[place.into(), worker.into()], line)
+            }
+            Call::Hand { place, leg, worker } => {
+                append_numbers(b"hand", &[place.into(), leg.into(), worker.into()], line)
+            }
             Call::Fork {
                 place,
                 leg,
                 first_worker,
                 second_worker,
-            } => write!(f, "fork {place} {leg} {first_worker} {second_worker}"),
+            } => append_numbers(
+                b"fork",
+                &[
+                    place.into(),
+                    leg.into(),
+                    first_worker.into(),
+                    second_worker.into(),
+                ],
+                line,
+            ),
             Call::Join {
                 place,
                 first_leg,
                 second_leg,
                 worker,
-            } => write!(f, "join {place} {first_leg} {second_leg} {worker}"),
-            Call::Read { place, leg, key } => write!(f, "read {place} {leg} {key}"),
+            } => append_numbers(
+                b"join",
+                &[
+                    place.into(),
+                    first_leg.into(),
+                    second_leg.into(),
+                    worker.into(),
+                ],
+                line,
+            ),
+            Call::Read { place, leg, key } => {
+                append_numbers(b"read", &[place.into(), leg.into(), key.into()], line)
+            }
             Call::Write {
                 place,
                 leg,
                 key,
                 value,
-            } => write!(f, "write {place} {leg} {key} {value}"),
+            } => append_numbers(
+                b"write",
+                &[place.into(), leg.into(), key.into(), value.into()],
+                line,
+            ),
             Call::Commit {
                 place,
                 leg,
@@ -62,19 +93,26 @@ impl fmt::Display for Request {
                 writes_room,
             } => {
                 if self.names_rooms {
-                    write!(
-                        f,
-                        "commit {place} {leg} {clock} {readings_room} {writes_room}"
+                    append_numbers(
+                        b"commit",
+                        &[
+                            place.into(),
+                            leg.into(),
+                            clock,
+                            readings_room as u64,
+                            writes_room as u64,
+                        ],
+                        line,
                     )
                 } else {
-                    write!(f, "commit {place} {leg} {clock}")
+                    append_numbers(b"commit", &[place.into(), leg.into(), clock], line)
                 }
             }
-            Call::Abandon { place } => write!(f, "abandon {place}"),
-            Call::Deliver { position } => write!(f, "deliver {position}"),
-            Call::Discard { position } => write!(f, "discard {position}"),
-            Call::Count => write!(f, "count"),
-            Call::Prune { horizon } => write!(f, "prune {horizon}"),
+            Call::Abandon { place } => append_numbers(b"abandon", &[place.into()], line),
+            Call::Deliver { position } => append_numbers(b"deliver", &[position], line),
+            Call::Discard { position } => append_numbers(b"discard", &[position], line),
+            Call::Count => line.extend_from_slice(b"count"),
+            Call::Prune { horizon } => append_numbers(b"prune", &[horizon], line),
         }
     }
 }
@@ -83,18 +121,24 @@ impl fmt::Display for Request {
 #[derive(Drop)]
 pub struct Outcome(pub Result<Answer, Fault>);
 
-impl fmt::Display for Outcome {
-    ghost output = { λ outcome. Some (spec.outcome_text outcome.0) };
+// The answer's word and its values; an account or a refusal in its own form.
+impl Append for Outcome {
+    ghost text = { λ outcome. spec.outcome_text outcome.0 };
 
-    fn fmt<W: fmt::Write>(&self, f: &mut fmt::Formatter<W>) -> fmt::Result {
+    fn append(&self, line: &mut Vec<u8>) -> Result<(), AllocError> {
         match &self.0 {
-            Ok(Answer::Leg(leg)) => write!(f, "leg {leg}"),
-            Ok(Answer::Legs(first, second)) => write!(f, "legs {first} {second}"),
-            Ok(Answer::Value(value)) => write!(f, "value {value}"),
-            Ok(Answer::Count(waiting, lost)) => write!(f, "waiting {waiting} lost {lost}"),
-            Ok(Answer::Account(committed)) => write!(f, "{}", AccountShown(account_of(committed))),
-            Ok(Answer::Done) => write!(f, "done"),
-            Err(fault) => write!(f, "{}", FaultShown(*fault)),
+            Ok(Answer::Leg(leg)) => append_numbers(b"leg", &[u64::from(*leg)], line),
+            Ok(Answer::Legs(first, second)) => {
+                append_numbers(b"legs", &[u64::from(*first), u64::from(*second)], line)
+            }
+            Ok(Answer::Value(value)) => append_numbers(b"value", &[u64::from(*value)], line),
+            Ok(Answer::Count(waiting, lost)) => {
+                append_numbers(b"waiting", &[*waiting as u64], line)?;
+                append_numbers(b" lost", &[*lost], line)
+            }
+            Ok(Answer::Account(committed)) => account_of(committed).append(line),
+            Ok(Answer::Done) => line.extend_from_slice(b"done"),
+            Err(fault) => fault.append(line),
         }
     }
 }
@@ -112,101 +156,73 @@ pub(crate) fn account_of(committed: &CommittedAccount) -> Account<'_>
     }
 }
 
-/// A refusal: its number, the layer that refused, and the place, leg and key that the call named.
-#[derive(Clone, Copy)]
-pub struct FaultShown(pub Fault);
+// A refusal: its number, the layer that refused, and the place, leg and key that the call named.
+impl Append for Fault {
+    ghost text = { spec.fault_text };
 
-impl fmt::Display for FaultShown {
-    ghost output = { λ shown. Some (spec.fault_text shown.0) };
-
-    fn fmt<W: fmt::Write>(&self, f: &mut fmt::Formatter<W>) -> fmt::Result {
+    fn append(&self, line: &mut Vec<u8>) -> Result<(), AllocError> {
         let Fault {
             refusal,
             layer,
             place,
             leg,
             key,
-        } = self.0;
-        write!(
-            f,
-            "refused {} {} {place} {leg} {key}",
-            refusal.number(),
-            LayerShown(layer)
-        )
+        } = *self;
+        append_numbers(b"refused", &[refusal.number().into()], line)?;
+        let named = [place.into(), leg.into(), key.into()];
+        append_numbers(layer_word(layer), &named, line)
     }
 }
 
-#[derive(Clone, Copy)]
-struct LayerShown(Layer);
-
-impl fmt::Display for LayerShown {
-    ghost output = { λ shown. Some (spec.layer_text shown.0) };
-
-    fn fmt<W: fmt::Write>(&self, f: &mut fmt::Formatter<W>) -> fmt::Result {
-        match self.0 {
-            Layer::Chain => write!(f, "chain"),
-            Layer::Store => write!(f, "store"),
-            Layer::Notices => write!(f, "notices"),
-            Layer::Book => write!(f, "book"),
-        }
+// The layer's word, behind a space.
+fn layer_word(layer: Layer) -> &'static [u8]
+    ensures { result.now ≡ 32 ∷ spec.layer_text layer }
+{
+    match layer {
+        Layer::Chain => b" chain",
+        Layer::Store => b" store",
+        Layer::Notices => b" notices",
+        Layer::Book => b" book",
     }
 }
 
 // The bytes of the longest account: 29 for its head and its last byte, and the most readings and writes.
 pub(crate) const LONGEST_ACCOUNT: usize = 29 + 22 * CHAIN_READINGS + 5 * WRITE_KEYS;
 
-/// An account: a line with its five numbers, one for each reading and each write, and one with its bytes in the book.
-#[derive(Clone, Copy)]
-pub struct AccountShown<'a>(pub Account<'a>);
+// An account: a line with its five numbers, one for each reading and each write, and one with its bytes in the book.
+impl Append for Account<'_> {
+    ghost text = { λ account. spec.account_text (as_account account) };
 
-impl fmt::Display for AccountShown<'_> {
-    ghost output = { λ shown. Some (spec.account_text (as_account shown.0)) };
-
-    fn fmt<W: fmt::Write>(&self, f: &mut fmt::Formatter<W>) -> fmt::Result {
+    fn append(&self, line: &mut Vec<u8>) -> Result<(), AllocError> {
         let Account {
             interval,
             timestamp,
             readings,
             writes,
-        } = self.0;
-        let head = AccountHead {
-            interval,
-            timestamp,
-            readings: readings.len(),
-            writes: writes.len(),
-        };
-        write!(
-            f,
-            "account {head}{}{}\n  book {}",
-            ReadingsShown(readings),
-            WritesShown(writes),
-            BookShown(self.0)
-        )
+        } = *self;
+        append_numbers(
+            b"account",
+            &[
+                interval.low,
+                interval.high,
+                timestamp,
+                readings.len() as u64,
+                writes.len() as u64,
+            ],
+            line,
+        )?;
+        append_readings(readings, line)?;
+        append_writes(writes, line)?;
+        line.extend_from_slice(b"\n  book ")?;
+        append_book(self, line)
     }
 }
 
-// A line for each reading: worker, key, value, timestamp and promise.
-#[derive(Clone, Copy)]
-struct ReadingsShown<'a>(&'a [ChainReading]);
-
-impl fmt::Display for ReadingsShown<'_> {
-    ghost output = { λ shown. Some (flat_map spec.reading_line shown.0.now) };
-
-    fn fmt<W: fmt::Write>(&self, f: &mut fmt::Formatter<W>) -> fmt::Result {
-        for made in self.0 {
-            write!(f, "\n  reading {}", ReadingShown(*made))?;
-        }
-        Ok(())
-    }
-}
-
-#[derive(Clone, Copy)]
-struct ReadingShown(ChainReading);
-
-impl fmt::Display for ReadingShown {
-    ghost output = { λ shown. Some (spec.reading_text shown.0) };
-
-    fn fmt<W: fmt::Write>(&self, f: &mut fmt::Formatter<W>) -> fmt::Result {
+// Adds a line for each reading: worker, key, value, timestamp and promise.
+fn append_readings(readings: &[ChainReading], line: &mut Vec<u8>) -> Result<(), AllocError>
+    ensures { OnOk result (line.new.items ≡ line.old.items ++ flat_map spec.reading_line readings.now) }
+{
+    for made in readings {
         let ChainReading {
             worker,
             key,
@@ -215,41 +231,48 @@ impl fmt::Display for ReadingShown {
                 timestamp,
                 promise,
             },
-        } = self.0;
-        write!(f, "{worker} {key} {value} {timestamp} {promise}")
+        } = *made;
+        append_numbers(
+            b"\n  reading",
+            &[worker.into(), key.into(), value.into(), timestamp, promise],
+            line,
+        )?;
+    }
+    Ok(())
+}
+
+// Adds a line for each write: key and value.
+fn append_writes(writes: &[Write], line: &mut Vec<u8>) -> Result<(), AllocError>
+    ensures { OnOk result (line.new.items ≡ line.old.items ++ flat_map spec.write_line writes.now) }
+{
+    for write in writes {
+        let Write { key, value } = *write;
+        append_numbers(b"\n  write", &[key.into(), value.into()], line)?;
+    }
+    Ok(())
+}
+
+// Adds the bytes that the book's writer gives for an account; the refusal of an account that it does not take.
+fn append_book(account: &Account, line: &mut Vec<u8>) -> Result<(), AllocError>
+    ensures { OnOk result (line.new.items ≡ line.old.items ++ spec.book_text (as_account account.now)) }
+{
+    let mut buffer = [0; LONGEST_ACCOUNT];
+    match book_bytes(account, &mut buffer) {
+        Ok(bytes) => append_hex(bytes, line),
+        Err(fault) => fault.append(line),
     }
 }
 
-// A line for each write: key and value.
-#[derive(Clone, Copy)]
-struct WritesShown<'a>(&'a [Write]);
-
-impl fmt::Display for WritesShown<'_> {
-    ghost output = { λ shown. Some (flat_map spec.write_line shown.0.now) };
-
-    fn fmt<W: fmt::Write>(&self, f: &mut fmt::Formatter<W>) -> fmt::Result {
-        for write in self.0 {
-            let Write { key, value } = *write;
-            write!(f, "\n  write {key} {value}")?;
-        }
-        Ok(())
-    }
-}
-
-// The bytes that the book's writer gives for an account; the refusal of an account that it does not take.
-#[derive(Clone, Copy)]
-struct BookShown<'a>(Account<'a>);
-
-impl fmt::Display for BookShown<'_> {
-    ghost output = { λ shown. Some (spec.book_text (as_account shown.0)) };
-
-    fn fmt<W: fmt::Write>(&self, f: &mut fmt::Formatter<W>) -> fmt::Result {
-        let mut buffer = [0; LONGEST_ACCOUNT];
-        match book_bytes(&self.0, &mut buffer) {
-            Ok(bytes) => write!(f, "{}", HexShown(bytes)),
-            Err(fault) => write!(f, "{}", FaultShown(fault)),
-        }
-    }
+// Adds bytes in hexadecimal, two digits for each.
+fn append_hex(bytes: &[u8], line: &mut Vec<u8>) -> Result<(), AllocError>
+    requires { length bytes.now ≤ 773 }
+    ensures { OnOk result (line.new.items ≡ line.old.items ++ flat_map spec.hex_byte bytes.now) }
+{
+    let mut buffer = [0; 2 * LONGEST_ACCOUNT];
+    let digits = &mut buffer[..2 * bytes.len()];
+    let encoded = hex::encode_to_slice(bytes, &mut *digits);
+    prove!(encoded.is_ok());
+    line.extend_from_slice(digits)
 }
 
 // The bytes of the account, which the book's writer puts into the buffer, or its refusal of an unlawful account.
@@ -257,38 +280,10 @@ pub(crate) fn book_bytes<'a>(
     account: &Account,
     buffer: &'a mut [u8; LONGEST_ACCOUNT],
 ) -> Result<&'a [u8], Fault>
-    ensures { MatchResult result (λ bytes. (lawful (as_account account.now) ≡ true) × (bytes.now ≡ account_bytes (as_account account.now))) (λ fault. (lawful (as_account account.now) ≡ false) × (fault ≡ (book_fault refusal.Unlawful 0).fault)) }
+    ensures { MatchResult result (λ bytes. (length bytes.now ≤ 773) × (lawful (as_account account.now) ≡ true) × (bytes.now ≡ account_bytes (as_account account.now))) (λ fault. (lawful (as_account account.now) ≡ false) × (fault ≡ (book_fault refusal.Unlawful 0).fault)) }
 {
     match account.write(buffer) {
         Ok(size) => Ok(&buffer[..size]),
         Err(refused) => Err(refused.fault),
-    }
-}
-
-// Bytes in hexadecimal, two digits for each.
-#[derive(Clone, Copy)]
-struct HexShown<'a>(&'a [u8]);
-
-impl fmt::Display for HexShown<'_> {
-    ghost output = { λ shown. Some (flat_map spec.hex_byte shown.0.now) };
-
-    fn fmt<W: fmt::Write>(&self, f: &mut fmt::Formatter<W>) -> fmt::Result {
-        for byte in self.0 {
-            write!(f, "{}", HexByte(*byte))?;
-        }
-        Ok(())
-    }
-}
-
-// A byte in two hexadecimal digits.
-#[derive(Clone, Copy)]
-struct HexByte(u8);
-
-impl fmt::Display for HexByte {
-    ghost output = { λ shown. Some (spec.hex_byte shown.0) };
-
-    fn fmt<W: fmt::Write>(&self, f: &mut fmt::Formatter<W>) -> fmt::Result {
-        let byte = self.0;
-        write!(f, "{byte:02x}")
     }
 }

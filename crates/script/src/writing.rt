@@ -1,27 +1,41 @@
 //! A line of the output: it is made whole in memory first, and then written.
-ghost use Rattle.std.specs.Prelude.{IfSome};
+ghost use Rattle.std.specs.Prelude.{◌≡◌, ◌++◌, OnOk};
 ghost use Rattle.script.specs.Played.{bad_line, result_line};
 ghost use Rattle.script.specs.Failures.{Writes};
 ghost use Rattle.script.specs.Sinks.{to_printed};
 
+use crate::append::{Append, append_numbers};
 use crate::error::PlayError;
 use crate::show::Outcome;
-use book::write_whole;
-use std::fmt;
+use book::output::write_whole;
+use std::alloc::AllocError;
 use std::io::Write;
 
 // Writes a call and what it came to. The buffer is for the text.
-pub(crate) fn write_outcome<W: Write, C: fmt::Display + Copy>(
+pub(crate) fn write_outcome<W: Write, C: Append>(
     output: &mut W,
     buffer: &mut Vec<u8>,
-    call: C,
-    outcome: Outcome,
+    call: &C,
+    outcome: &Outcome,
 ) -> Result<(), PlayError>
-    ensures { IfSome (C.output call) (λ text. Writes to_printed result (W.contents output.old) (W.contents output.new) (result_line text outcome.0)) }
+    ensures { Writes to_printed result (W.contents output.old) (W.contents output.new) (result_line (C.text call.now) outcome.now.0) }
 {
     buffer.clear();
-    writeln!(buffer, "{call} -> {outcome}").map_err(|_| PlayError::Memory)?;
+    append_result(buffer, call, outcome).map_err(|_| PlayError::Memory)?;
     write_whole(output, buffer.as_slice()).map_err(PlayError::Output)
+}
+
+fn append_result<C: Append>(
+    line: &mut Vec<u8>,
+    call: &C,
+    outcome: &Outcome,
+) -> Result<(), AllocError>
+    ensures { OnOk result (line.new.items ≡ line.old.items ++ result_line (C.text call.now) outcome.now.0) }
+{
+    call.append(line)?;
+    line.extend_from_slice(b" -> ")?;
+    outcome.append(line)?;
+    line.extend_from_slice(b"\n")
 }
 
 // Writes the number of a bad line.
@@ -33,6 +47,13 @@ pub(crate) fn write_bad<W: Write>(
     ensures { Writes to_printed result (W.contents output.old) (W.contents output.new) (bad_line number) }
 {
     buffer.clear();
-    writeln!(buffer, "bad {number}").map_err(|_| PlayError::Memory)?;
+    append_bad(buffer, number).map_err(|_| PlayError::Memory)?;
     write_whole(output, buffer.as_slice()).map_err(PlayError::Output)
+}
+
+fn append_bad(line: &mut Vec<u8>, number: u64) -> Result<(), AllocError>
+    ensures { OnOk result (line.new.items ≡ line.old.items ++ bad_line number) }
+{
+    append_numbers(b"bad", &[number], line)?;
+    line.extend_from_slice(b"\n")
 }

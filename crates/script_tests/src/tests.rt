@@ -1,8 +1,15 @@
 //! Tests of a script's lines, of what is shown, and of the playing, from bytes to bytes. What is expected was worked out
 //! from the rules.
-use book::Account;
-use script::{AccountShown, FaultShown, Line, Outputs, PlayError, StoreKind, parse, play};
-use snapshot::{ChainReading, Fault, Interval, Layer, Reading, Refusal, Write};
+use book::account::Account;
+use script::append::Append;
+use script::error::PlayError;
+use script::line::{Line, StoreKind};
+use script::outputs::Outputs;
+use script::parse::parse;
+use script::play::play;
+use snapshot::account::{ChainReading, Reading, Write};
+use snapshot::fault::{Fault, Layer, Refusal};
+use snapshot::interval::Interval;
 use std::alloc::Global;
 use std::io::{self, ErrorKind, Read};
 use std::process::Abort;
@@ -27,6 +34,18 @@ pub(crate) fn played(
 fn prints(rt: &(impl Abort + AllocGlobal), script: &[u8], expected: &str) -> Result<(), Fail> {
     let printed = played(rt.alloc(), script)?.printed;
     assert_eq!(rt; printed.as_slice(), expected.as_bytes(), "{expected}");
+    Ok(())
+}
+
+// The value's text is this.
+fn shows<T: Append>(
+    rt: &(impl Abort + AllocGlobal),
+    value: &T,
+    expected: &str,
+) -> Result<(), Fail> {
+    let mut text = Vec::new(rt.alloc());
+    value.append(&mut text)?;
+    assert_eq!(rt; text.as_slice(), expected.as_bytes(), "{expected}");
     Ok(())
 }
 
@@ -341,9 +360,7 @@ fn refusals_are_shown_with_number_layer_place_leg_and_key(rt: HostRuntime) -> Re
         leg: 2,
         key: 3,
     };
-    let text = format!(in rt.alloc(); "{}", FaultShown(fault))?;
-    assert_eq!(rt; text.as_str(), "refused 21 book 1 2 3");
-    Ok(())
+    shows(&rt, &fault, "refused 21 book 1 2 3")
 }
 
 #[test]
@@ -374,17 +391,16 @@ fn account_is_shown_with_its_readings_its_writes_and_its_bytes(
         readings: &readings,
         writes: &writes,
     };
-    let text = format!(in rt.alloc(); "{}", AccountShown(account))?;
-    assert_eq!(rt;
-        text.as_str(),
+    shows(
+        &rt,
+        &account,
         "account 20 30 51 3 2\n  reading 3 7 1 10 40\n  reading 1 9 4294967295 20 50\n  reading 7 63 256 15 30\n  \
         write 2 5\n  write 40 6\n  book c33c03020000000000000014000000000000001e0000000000000033\
         030700000001000000000000000a0000000000000028\
         0109ffffffff00000000000000140000000000000032\
         073f00000100000000000000000f000000000000001e\
-        02000000052800000006cf"
-    );
-    Ok(())
+        02000000052800000006cf",
+    )
 }
 
 fn reading(worker: u8, key: u8, value: u32, timestamp: u64, promise: u64) -> ChainReading {
@@ -407,12 +423,11 @@ fn account_that_the_book_refuses_is_shown_with_that_refusal(rt: HostRuntime) -> 
         readings: &[],
         writes: &[],
     };
-    let text = format!(in rt.alloc(); "{}", AccountShown(account))?;
-    assert_eq!(rt;
-        text.as_str(),
-        "account 2 1 0 0 0\n  book refused 21 book 255 255 255"
-    );
-    Ok(())
+    shows(
+        &rt,
+        &account,
+        "account 2 1 0 0 0\n  book refused 21 book 255 255 255",
+    )
 }
 
 // Errors of input and output.

@@ -1,5 +1,6 @@
 -- Where there is no memory for the text, none of it was written.
 use Rattle.std.proofs.Common.{◌≡◌, Err, rules}
+use Rattle.script.specs.Played.{result_line}
 use Rattle.script.specs.declared.error.PlayError.TheVariants.{Memory}
 use Rattle.script.proofs.WritingProofs.{no_memory}
 use Rattle.script.proofs.writing.write_outcome.Goals as goal
@@ -8,8 +9,8 @@ pub returns-in_err-map_err : goal.returns-in_err-map_err
 returns-in_err-map_err g c =
     let failed : c.from_residual.result ≡ Err Memory = search rules in
     no_memory
-    (g.C.Display.output c.args.call)
     (g.W.Write.contents c.args.output.now)
-    c.args.outcome.0
+    (g.C.Append.text c.args.call.now)
+    c.args.outcome.now.0
     c.from_residual.result
     failed

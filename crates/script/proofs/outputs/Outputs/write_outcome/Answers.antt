@@ -4,7 +4,7 @@ use Rattle.script.specs.Failures.{AddsAll, Writes}
 use Rattle.script.specs.Played.{result_line, result_parts}
 use Rattle.script.specs.Shown.{booked_bytes}
 use Rattle.script.specs.Sinks.{each_sink, held, to_printed}
-use Rattle.script.proofs.WritingProofs.{book_failed, if_known, then_printed}
+use Rattle.script.proofs.WritingProofs.{book_failed, then_printed}
 use Rattle.std.proofs.KnownBytes.{Appends-nil}
 use Rattle.script.proofs.outputs.Outputs.write_outcome.Goals as goal
 
@@ -12,23 +12,23 @@ pub returns-in_err-write_account : goal.returns-in_err-write_account
 returns-in_err-write_account g c =
     let failed : c.from_residual.result ≡ Err c.in_err-write_account.field-0.0 = search rules in
     let outputs = c.args.self.now in
-    if_known (g.C.Display.output c.args.call) _ (λ text known. book_failed
+    book_failed
     c.from_residual.result
     c.in_err-write_account.field-0.0
     (g.W.Write.contents outputs.printed)
     (g.B.Write.contents outputs.book)
     (g.B.Write.contents c.write_account.new.output)
     (g.M.Write.contents outputs.messages)
-    (result_line text c.args.outcome.0)
-    (booked_bytes c.args.outcome.0)
+    (result_line (g.C.Append.text c.args.call.now) c.args.outcome.now.0)
+    (booked_bytes c.args.outcome.now.0)
     failed
-    (omega (arith, length-append text))
-    c.in_err-write_account.ensures)
+    (omega (arith, length-append (g.C.Append.text c.args.call.now)))
+    c.in_err-write_account.ensures
 
 pub returns : goal.returns
 returns g c =
     let outputs = c.args.self.now in
-    if_known (g.C.Display.output c.args.call) _ (λ text known. then_printed
+    then_printed
     c.write_outcome.result
     (g.W.Write.contents outputs.printed)
     (g.W.Write.contents c.write_outcome.new.output)
@@ -36,9 +36,9 @@ returns g c =
     (g.B.Write.contents c.write_account.new.output)
     (g.M.Write.contents outputs.messages)
     (g.M.Write.contents outputs.messages)
-    (result_line text c.args.outcome.0)
-    (booked_bytes c.args.outcome.0)
+    (result_line (g.C.Append.text c.args.call.now) c.args.outcome.now.0)
+    (booked_bytes c.args.outcome.now.0)
     []
     c.in_ok-write_account.ensures
     (Appends-nil (g.M.Write.contents outputs.messages))
-    (rw known at c.write_outcome.ensures))
+    c.write_outcome.ensures
