@@ -1,5 +1,6 @@
 -- The texts of calls, of answers and of refusals.
 use Rattle.std.specs.Prelude.{ℕ, ◌/◌, ◌%◌, Bool, false, if◌then◌else◌, List, [], ◌∷◌, ◌++◌, codes, decimal, Result, Ok, Err}
+use Rattle.std.specs.Borrow.{Bor}
 use Rattle.std.specs.Fmt.{digit_glyph}
 use Rattle.std.specs.List.{flat_map}
 use Rattle.snapshot.specs.Accounts.{Account, head_of, lawful}
@@ -109,6 +110,11 @@ outcome_text (Ok (answer.Count n lost)) = codes "waiting " ++ (decimal n ++ (cod
 outcome_text (Ok (answer.Account a)) = account_text a
 outcome_text (Ok answer.Done) = codes "done"
 outcome_text (Err f) = fault_text f
+
+-- an outcome whose answer is borrowed
+abbrev pub lent_outcome : Result (Bor Answer) Fault → Result Answer Fault
+lent_outcome (Ok a) = Ok a.now
+lent_outcome (Err f) = Err f
 
 -- What a call adds to the book: the bytes of the account that it answers. An account that the book does not take adds nothing.
 abbrev pub booked_bytes : Result Answer Fault → List ℕ

@@ -1,17 +1,22 @@
 //! The outputs of a playing, and what a call and a bad line add to each.
+ghost use Rattle.std.specs.Prelude.{Ok};
+ghost use Rattle.book.specs.Format.{as_account};
+ghost use Rattle.engine.specs.declared.answer.Answer.TheVariants as answer;
 ghost use Rattle.script.specs.BadLines.{message};
 ghost use Rattle.script.specs.Failures.{AddsAll, Writes};
 ghost use Rattle.script.specs.Played.{bad_parts, result_parts};
-ghost use Rattle.script.specs.Shown.{booked_bytes};
+ghost use Rattle.script.specs.Shown.{booked_bytes, lent_outcome};
 ghost use Rattle.script.specs.Sinks.{held, to_book, to_messages};
 
 use crate::append::Append;
 use crate::bad_line::BadLine;
 use crate::error::PlayError;
-use crate::show::{LONGEST_ACCOUNT, Outcome, account_of, book_bytes};
+use crate::show::{LONGEST_ACCOUNT, account_of, book_bytes};
 use crate::writing::{write_bad, write_outcome};
+use book::account::Account;
 use book::output::write_whole;
 use engine::answer::Answer;
+use snapshot::fault::Fault;
 use std::io::Write;
 
 /// Where a playing writes.
@@ -31,9 +36,9 @@ impl<W: Write, B: Write, M: Write> Outputs<W, B, M> {
         &mut self,
         memory: &mut Vec<u8>,
         call: &C,
-        outcome: &Outcome,
+        outcome: Result<&Answer, Fault>,
     ) -> Result<(), PlayError>
-        ensures { AddsAll result (held W.contents B.contents M.contents self.old) (held W.contents B.contents M.contents self.new) (result_parts (C.text call.now) outcome.now.0) }
+        ensures { AddsAll result (held W.contents B.contents M.contents self.old) (held W.contents B.contents M.contents self.new) (result_parts (C.text call.now) (lent_outcome outcome.entry)) }
     {
         write_account(&mut self.book, outcome)?;
         write_outcome(&mut self.printed, memory, call, outcome)
@@ -54,14 +59,23 @@ impl<W: Write, B: Write, M: Write> Outputs<W, B, M> {
 }
 
 // Writes the bytes of an account, as the book's writer gives them; of any other outcome there are none.
-fn write_account<B: Write>(output: &mut B, outcome: &Outcome) -> Result<(), PlayError>
-    ensures { Writes to_book result (B.contents output.old) (B.contents output.new) (booked_bytes outcome.now.0) }
+fn write_account<B: Write>(output: &mut B, outcome: Result<&Answer, Fault>) -> Result<(), PlayError>
+    ensures { Writes to_book result (B.contents output.old) (B.contents output.new) (booked_bytes (lent_outcome outcome.entry)) }
 {
-    let Ok(Answer::Account(committed)) = &outcome.0 else {
+    let Ok(Answer::Account(committed)) = outcome else {
         return Ok(());
     };
+    write_booked(output, &account_of(committed))
+}
+
+// Writes the account's bytes; there are none of an account that the book does not take. Only an account pays for the buffer,
+// which a function clears when it is entered.
+#[inline(never)]
+fn write_booked<B: Write>(output: &mut B, account: &Account) -> Result<(), PlayError>
+    ensures { Writes to_book result (B.contents output.old) (B.contents output.new) (booked_bytes (Ok (answer.Account (as_account account.now)))) }
+{
     let mut buffer = [0; LONGEST_ACCOUNT];
-    match book_bytes(&account_of(committed), &mut buffer) {
+    match book_bytes(account, &mut buffer) {
         Ok(bytes) => write_whole(output, bytes).map_err(PlayError::Book),
         Err(_) => Ok(()),
     }

@@ -2,13 +2,14 @@
 ghost use Rattle.std.specs.Prelude.{◌≡◌, ◌+◌, ◌∷◌, IfSome, length, min};
 ghost use Rattle.engine.specs.Engines.{engine_of};
 ghost use Rattle.engine.specs.Performing.{performed};
+ghost use Rattle.engine.specs.declared.answer.Answer.TheVariants as answer;
 ghost use Rattle.script.specs.ScriptTraces.{PrintsTrace};
 ghost use Rattle.script.specs.Failures.{AddsAll};
 ghost use Rattle.script.specs.Played.{Prints, PrintsAll, after_line, booked, check_result, line_text, shown_result, played, played_on, printed, parsed_lines, result_parts, script_text, told};
 ghost use Rattle.script.specs.declared.line.Line.TheVariants as line;
 ghost use Rattle.script.specs.declared.line.StoreKind.TheVariants as kind;
 ghost use Rattle.snapshot.specs.Limits.{most_records};
-ghost use Rattle.script.specs.Shown.{request_text};
+ghost use Rattle.script.specs.Shown.{lent_outcome, request_text};
 ghost use Rattle.script.specs.Sinks.{held, to_book, to_messages, to_printed};
 
 use crate::bad_line::BadLine;
@@ -16,10 +17,11 @@ use crate::error::PlayError;
 use crate::line::{Line, Request, StoreKind};
 use crate::line_reader::LineReader;
 use crate::outputs::Outputs;
-use crate::show::Outcome;
-use engine::{Answer, Engine};
-use newest_store::Newest;
-use snapshot::{EngineFault, Fault, MOST_RECORDS};
+use engine::answer::Answer;
+use engine::engine::Engine;
+use newest_store::newest::Newest;
+use snapshot::fault::{EngineFault, Fault};
+use snapshot::limits::MOST_RECORDS;
 use std::alloc::Global;
 use std::io::{BufRead, Write};
 use store::Store;
@@ -80,7 +82,7 @@ fn play_over<R: BufRead, W: Write, B: Write, M: Write>(
 {
     match kind {
         StoreKind::Newest => {
-            outputs.write_outcome(memory, &kind, &Outcome(Ok(Answer::Done)))?;
+            outputs.write_outcome(memory, &kind, Ok(&Answer::Done))?;
             play_on(
                 input,
                 outputs,
@@ -119,7 +121,7 @@ fn play_over_table<R: BufRead, W: Write, B: Write, M: Write>(
     outputs.write_outcome(
         memory,
         &StoreKind::Table { records },
-        &checked(Table::check(table)),
+        checked(Table::check(table), &Answer::Done),
     )?;
     play_on(
         input,
@@ -194,20 +196,24 @@ fn perform<W: Write, B: Write, M: Write, S: Store>(
     ensures after { engine_of S.Reads.meaning engine.new ≡ (performed S.Store.DEPTH request.call (engine_of S.Reads.meaning engine.old)).1 }
     ensures writes { AddsAll result (held W.contents B.contents M.contents outputs.old) (held W.contents B.contents M.contents outputs.new) (result_parts (request_text request) (shown_result (performed S.Store.DEPTH request.call (engine_of S.Reads.meaning engine.old)).0)) }
 {
-    let outcome = outcome(engine.perform(request.call));
-    outputs.write_outcome(memory, &request, &outcome)
+    let answer = engine.perform(request.call);
+    outputs.write_outcome(memory, &request, outcome(&answer))
 }
 
 // Of an engine's fault the call's own is shown.
-fn outcome(answer: Result<Answer, EngineFault>) -> Outcome
-    ensures { result.0 ≡ shown_result answer }
+fn outcome(answer: &Result<Answer, EngineFault>) -> Result<&Answer, Fault>
+    ensures { lent_outcome result ≡ shown_result answer.now }
 {
-    Outcome(answer.map_err(|fault| fault.fault))
+    match answer {
+        Ok(answer) => Ok(answer),
+        Err(fault) => Err(fault.fault),
+    }
 }
 
-// What the check of a table's memory came to.
-fn checked(memory: Result<(), Fault>) -> Outcome
-    ensures { result.0 ≡ check_result memory }
+// What the check of a table's memory came to, where this is the answer that it is done.
+fn checked(memory: Result<(), Fault>, done: &Answer) -> Result<&Answer, Fault>
+    requires { done.now ≡ answer.Done }
+    ensures { lent_outcome result ≡ check_result memory }
 {
-    Outcome(memory.map(|()| Answer::Done))
+    memory.map(|()| done)
 }

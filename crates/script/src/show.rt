@@ -117,29 +117,26 @@ impl Append for Request {
     }
 }
 
-/// What a call came to: its answer or its refusal.
-#[derive(Drop)]
-pub struct Outcome(pub Result<Answer, Fault>);
-
-// The answer's word and its values; an account or a refusal in its own form.
-impl Append for Outcome {
-    ghost text = { λ outcome. spec.outcome_text outcome.0 };
-
-    fn append(&self, line: &mut Vec<u8>) -> Result<(), AllocError> {
-        match &self.0 {
-            Ok(Answer::Leg(leg)) => append_numbers(b"leg", &[u64::from(*leg)], line),
-            Ok(Answer::Legs(first, second)) => {
-                append_numbers(b"legs", &[u64::from(*first), u64::from(*second)], line)
-            }
-            Ok(Answer::Value(value)) => append_numbers(b"value", &[u64::from(*value)], line),
-            Ok(Answer::Count(waiting, lost)) => {
-                append_numbers(b"waiting", &[*waiting as u64], line)?;
-                append_numbers(b" lost", &[*lost], line)
-            }
-            Ok(Answer::Account(committed)) => account_of(committed).append(line),
-            Ok(Answer::Done) => line.extend_from_slice(b"done"),
-            Err(fault) => fault.append(line),
+// Adds what a call came to: the answer's word and its values, or an account or a refusal.
+pub(crate) fn append_outcome(
+    outcome: Result<&Answer, Fault>,
+    line: &mut Vec<u8>,
+) -> Result<(), AllocError>
+    ensures { OnOk result (line.new.items ≡ line.old.items ++ spec.outcome_text (spec.lent_outcome outcome.entry)) }
+{
+    match outcome {
+        Ok(Answer::Leg(leg)) => append_numbers(b"leg", &[u64::from(*leg)], line),
+        Ok(Answer::Legs(first, second)) => {
+            append_numbers(b"legs", &[u64::from(*first), u64::from(*second)], line)
         }
+        Ok(Answer::Value(value)) => append_numbers(b"value", &[u64::from(*value)], line),
+        Ok(Answer::Count(waiting, lost)) => {
+            append_numbers(b"waiting", &[*waiting as u64], line)?;
+            append_numbers(b" lost", &[*lost], line)
+        }
+        Ok(Answer::Account(committed)) => account_of(committed).append(line),
+        Ok(Answer::Done) => line.extend_from_slice(b"done"),
+        Err(fault) => fault.append(line),
     }
 }
 
@@ -252,7 +249,9 @@ fn append_writes(writes: &[Write], line: &mut Vec<u8>) -> Result<(), AllocError>
     Ok(())
 }
 
-// Adds the bytes that the book's writer gives for an account; the refusal of an account that it does not take.
+// Adds the bytes that the book's writer gives for an account; the refusal of an account that it does not take. Only an account
+// pays for the buffers, which a function clears when it is entered.
+#[inline(never)]
 fn append_book(account: &Account, line: &mut Vec<u8>) -> Result<(), AllocError>
     ensures { OnOk result (line.new.items ≡ line.old.items ++ spec.book_text (as_account account.now)) }
 {

@@ -2,12 +2,15 @@
 ghost use Rattle.std.specs.Prelude.{◌≡◌, ◌++◌, OnOk};
 ghost use Rattle.script.specs.Played.{bad_line, result_line};
 ghost use Rattle.script.specs.Failures.{Writes};
+ghost use Rattle.script.specs.Shown.{lent_outcome};
 ghost use Rattle.script.specs.Sinks.{to_printed};
 
 use crate::append::{Append, append_numbers};
 use crate::error::PlayError;
-use crate::show::Outcome;
+use crate::show::append_outcome;
 use book::output::write_whole;
+use engine::answer::Answer;
+use snapshot::fault::Fault;
 use std::alloc::AllocError;
 use std::io::Write;
 
@@ -16,25 +19,25 @@ pub(crate) fn write_outcome<W: Write, C: Append>(
     output: &mut W,
     buffer: &mut Vec<u8>,
     call: &C,
-    outcome: &Outcome,
+    outcome: Result<&Answer, Fault>,
 ) -> Result<(), PlayError>
-    ensures { Writes to_printed result (W.contents output.old) (W.contents output.new) (result_line (C.text call.now) outcome.now.0) }
+    ensures { Writes to_printed result (W.contents output.old) (W.contents output.new) (result_line (C.text call.now) (lent_outcome outcome.entry)) }
 {
     buffer.clear();
     append_result(buffer, call, outcome).map_err(|_| PlayError::Memory)?;
-    write_whole(output, buffer.as_slice()).map_err(PlayError::Output)
+    write_line(output, buffer.as_slice())
 }
 
 fn append_result<C: Append>(
     line: &mut Vec<u8>,
     call: &C,
-    outcome: &Outcome,
+    outcome: Result<&Answer, Fault>,
 ) -> Result<(), AllocError>
-    ensures { OnOk result (line.new.items ≡ line.old.items ++ result_line (C.text call.now) outcome.now.0) }
+    ensures { OnOk result (line.new.items ≡ line.old.items ++ result_line (C.text call.now) (lent_outcome outcome.entry)) }
 {
     call.append(line)?;
     line.extend_from_slice(b" -> ")?;
-    outcome.append(line)?;
+    append_outcome(outcome, line)?;
     line.extend_from_slice(b"\n")
 }
 
@@ -48,7 +51,7 @@ pub(crate) fn write_bad<W: Write>(
 {
     buffer.clear();
     append_bad(buffer, number).map_err(|_| PlayError::Memory)?;
-    write_whole(output, buffer.as_slice()).map_err(PlayError::Output)
+    write_line(output, buffer.as_slice())
 }
 
 fn append_bad(line: &mut Vec<u8>, number: u64) -> Result<(), AllocError>
@@ -56,4 +59,10 @@ fn append_bad(line: &mut Vec<u8>, number: u64) -> Result<(), AllocError>
 {
     append_numbers(b"bad", &[number], line)?;
     line.extend_from_slice(b"\n")
+}
+
+fn write_line<W: Write>(output: &mut W, line: &[u8]) -> Result<(), PlayError>
+    ensures { Writes to_printed result (W.contents output.old) (W.contents output.new) line.now }
+{
+    write_whole(output, line).map_err(PlayError::Output)
 }

@@ -5,7 +5,7 @@ use Rattle.snapshot.specs.Limits.{most_records}
 use Rattle.records.specs.Layouts.{record_depth}
 use Rattle.record_store.specs.Tables.{table_meaning}
 use Rattle.script.specs.Played.{over_table, played, played_on, parsed_lines, result_parts}
-use Rattle.script.specs.Shown.{store_text}
+use Rattle.script.specs.Shown.{lent_outcome, store_text}
 use Rattle.script.specs.Sinks.{held}
 use Rattle.script.specs.declared.line.Line.TheVariants as line
 use Rattle.script.specs.declared.line.StoreKind.TheVariants.{Table}
@@ -22,7 +22,7 @@ returns g c =
     (out c.args.outputs.now k)
     (out c.write_outcome.new.self k)
     (out c.play_on.new.outputs k)
-    (result_parts (store_text (Table c.args.records)) c.checked.result.0 k)
+    (result_parts (store_text (Table c.args.records)) (lent_outcome c.checked.result) k)
     (λ rest. played_on k record_depth (engine_of (λ t. table_meaning t.memory.now t.kept t.last) c.new-2.result) (c.args.number + 1) (parsed_lines rest))
     (λ rest. played k c.args.number (line.Store (Table c.args.records) ∷ parsed_lines rest))
     (c.in_ok-write_outcome.ensures k)
@@ -40,7 +40,7 @@ returns-in_err-write_outcome g c =
     (g.R.Read.remaining c.args.input.now.source)
     (out c.args.outputs.now k)
     (out c.write_outcome.new.self k)
-    (result_parts (store_text (Table c.args.records)) c.checked.result.0 k)
+    (result_parts (store_text (Table c.args.records)) (lent_outcome c.checked.result) k)
     (λ rest. played_on k record_depth (over_table (min c.args.records most_records)) (c.args.number + 1) (parsed_lines rest))
     (λ rest. played k c.args.number (line.Store (Table c.args.records) ∷ parsed_lines rest))
     failed

@@ -1,6 +1,7 @@
 -- Where there is no memory for the text, none of it was written.
 use Rattle.std.proofs.Common.{◌≡◌, Err, rules}
 use Rattle.script.specs.Played.{result_line}
+use Rattle.script.specs.Shown.{lent_outcome}
 use Rattle.script.specs.declared.error.PlayError.TheVariants.{Memory}
 use Rattle.script.proofs.WritingProofs.{no_memory}
 use Rattle.script.proofs.writing.write_outcome.Goals as goal
@@ -11,6 +12,6 @@ returns-in_err-map_err g c =
     no_memory
     (g.W.Write.contents c.args.output.now)
     (g.C.Append.text c.args.call.now)
-    c.args.outcome.now.0
+    (lent_outcome c.args.outcome)
     c.from_residual.result
     failed

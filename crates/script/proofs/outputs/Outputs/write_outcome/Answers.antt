@@ -2,7 +2,7 @@
 use Rattle.std.proofs.Common.{◌≡◌, [], Err, IfSome, rules, arith, length-append}
 use Rattle.script.specs.Failures.{AddsAll, Writes}
 use Rattle.script.specs.Played.{result_line, result_parts}
-use Rattle.script.specs.Shown.{booked_bytes}
+use Rattle.script.specs.Shown.{booked_bytes, lent_outcome}
 use Rattle.script.specs.Sinks.{each_sink, held, to_printed}
 use Rattle.script.proofs.WritingProofs.{book_failed, then_printed}
 use Rattle.std.proofs.KnownBytes.{Appends-nil}
@@ -19,8 +19,8 @@ returns-in_err-write_account g c =
     (g.B.Write.contents outputs.book)
     (g.B.Write.contents c.write_account.new.output)
     (g.M.Write.contents outputs.messages)
-    (result_line (g.C.Append.text c.args.call.now) c.args.outcome.now.0)
-    (booked_bytes c.args.outcome.now.0)
+    (result_line (g.C.Append.text c.args.call.now) (lent_outcome c.args.outcome))
+    (booked_bytes (lent_outcome c.args.outcome))
     failed
     (omega (arith, length-append (g.C.Append.text c.args.call.now)))
     c.in_err-write_account.ensures
@@ -36,8 +36,8 @@ returns g c =
     (g.B.Write.contents c.write_account.new.output)
     (g.M.Write.contents outputs.messages)
     (g.M.Write.contents outputs.messages)
-    (result_line (g.C.Append.text c.args.call.now) c.args.outcome.now.0)
-    (booked_bytes c.args.outcome.now.0)
+    (result_line (g.C.Append.text c.args.call.now) (lent_outcome c.args.outcome))
+    (booked_bytes (lent_outcome c.args.outcome))
     []
     c.in_ok-write_account.ensures
     (Appends-nil (g.M.Write.contents outputs.messages))
