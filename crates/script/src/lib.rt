@@ -1,10 +1,10 @@
 //! Scripts of engine calls: what a line says, how a call and its answer are shown, and the playing of a script.
 #![tactic(auto)]
 
-pub mod append;
-pub mod bad_line;
-pub mod error;
-pub mod line;
+mod append;
+mod bad_line;
+mod error;
+mod line;
 mod line_reader;
 mod number;
 mod outputs;
@@ -15,10 +15,10 @@ mod show;
 mod words;
 mod writing;
 
+pub use append::Append;
 pub use bad_line::{BadLine, Wanted};
 pub use error::PlayError;
 pub use line::{Line, Request, StoreKind};
 pub use outputs::Outputs;
 pub use parsing::parse;
 pub use playing::play;
-pub use show::{AccountShown, FaultShown, Outcome};

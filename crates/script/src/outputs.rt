@@ -13,10 +13,9 @@ use crate::bad_line::BadLine;
 use crate::error::PlayError;
 use crate::show::{LONGEST_ACCOUNT, account_of, book_bytes};
 use crate::writing::{write_bad, write_outcome};
-use book::account::Account;
-use book::output::write_whole;
-use engine::answer::Answer;
-use snapshot::fault::Fault;
+use book::{Account, write_whole};
+use engine::Answer;
+use snapshot::Fault;
 use std::io::Write;
 
 /// Where a playing writes.

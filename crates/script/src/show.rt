@@ -10,12 +10,10 @@ ghost use Rattle.script.specs.Shown as spec;
 
 use crate::append::{Append, append_numbers};
 use crate::line::{Request, StoreKind};
-use book::account::Account;
-use engine::answer::{Answer, CommittedAccount};
-use engine_model::calls::Call;
-use snapshot::account::{ChainReading, Reading, Write};
-use snapshot::fault::{Fault, Layer};
-use snapshot::limits::{CHAIN_READINGS, WRITE_KEYS};
+use book::Account;
+use engine::{Answer, CommittedAccount};
+use engine_model::Call;
+use snapshot::{CHAIN_READINGS, ChainReading, Fault, Layer, Reading, WRITE_KEYS, Write};
 use std::alloc::AllocError;
 
 // The kind's word; of a table also how many records it has.

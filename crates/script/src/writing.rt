@@ -8,9 +8,9 @@ ghost use Rattle.script.specs.Sinks.{to_printed};
 use crate::append::{Append, append_numbers};
 use crate::error::PlayError;
 use crate::show::append_outcome;
-use book::output::write_whole;
-use engine::answer::Answer;
-use snapshot::fault::Fault;
+use book::write_whole;
+use engine::Answer;
+use snapshot::Fault;
 use std::alloc::AllocError;
 use std::io::Write;
 

@@ -1,15 +1,8 @@
 //! Tests of a script's lines, of what is shown, and of the playing, from bytes to bytes. What is expected was worked out
 //! from the rules.
-use book::account::Account;
-use script::append::Append;
-use script::error::PlayError;
-use script::line::{Line, StoreKind};
-use script::outputs::Outputs;
-use script::parse::parse;
-use script::play::play;
-use snapshot::account::{ChainReading, Reading, Write};
-use snapshot::fault::{Fault, Layer, Refusal};
-use snapshot::interval::Interval;
+use book::Account;
+use script::{Append, Line, Outputs, PlayError, StoreKind, parse, play};
+use snapshot::{ChainReading, Fault, Interval, Layer, Reading, Refusal, Write};
 use std::alloc::Global;
 use std::io::{self, ErrorKind, Read};
 use std::process::Abort;
