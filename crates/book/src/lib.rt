@@ -15,4 +15,4 @@ pub use listing::{Listing, read_book};
 pub use output::{Extent, list_book, write_whole};
 pub use reader::{AccountAt, read_account};
 pub use sum::last_byte;
-pub use writer::MARK;
+pub use writer::{LONGEST_ACCOUNT, MARK};

@@ -10,10 +10,13 @@ use crate::lawful::LawfulAccount;
 use crate::packed::{HEAD_SIZE, account_size, pack_all, writes_place};
 use crate::sum::last_byte;
 use byteorder::{BigEndian, ByteOrder};
-use snapshot::{BookFault, Refusal};
+use snapshot::{BookFault, CHAIN_READINGS, Refusal, WRITE_KEYS};
 
 /// The two bytes with which an account begins.
 pub const MARK: [u8; 2] = [0xC3, 0x3C];
+
+/// How many bytes the longest account has, 773: 29 for its head and its last byte, 22 for a reading and 5 for a write.
+pub const LONGEST_ACCOUNT: usize = 29 + 22 * CHAIN_READINGS + 5 * WRITE_KEYS;
 
 impl Account<'_> {
     /// Writes the account to the start of the buffer and answers its length. Refuses an unlawful account, then a buffer

@@ -125,12 +125,13 @@ impl<S: Store> Engine<S> {
         self.state.write(place, leg, key, value)
     }
 
-    /// Commits a chain by its only open leg: the store takes the leg's writes, their notices are raised, and the place is free
-    /// again. Without writes the store is not called, and the clock reading is not looked at. Fills the starts of the two lists
-    /// with the chain's readings in order and the writes, and leaves their rest; answers the account's five numbers. In every trace
-    /// that led to the engine, with the commit added, the account keeps its law, and so the book takes it. Refused: 1 place or leg
-    /// out of range, 3 that leg is not open, 9 another leg is open, 10 a list is too short, and by the store 12 the clock reading is
-    /// too high, 13 no time is left, 14 there is no room for more versions.
+    /// Commits a chain by its only open leg at a clock reading, 0 to 2^48 - 1: the store takes the leg's writes, their notices are
+    /// raised, and the place is free again. Without writes the store is not called, and the clock reading is not looked at. Fills
+    /// the starts of the two lists with the chain's readings in order and the writes, and leaves their rest; lists of 32 readings
+    /// and 8 writes are always long enough. Answers the account's five numbers. In every trace that led to the engine, with the
+    /// commit added, the account keeps its law, and so the book takes it. Refused: 1 place or leg out of range, 3 that leg is not
+    /// open, 9 another leg is open, 10 a list is too short, and by the store 12 the clock reading is too high, 13 no time is left,
+    /// 14 there is no room for more versions.
     pub fn commit(
         &mut self,
         place: u8,
@@ -156,7 +157,7 @@ impl<S: Store> Engine<S> {
             .commit_into(&mut self.store, named, clock, room, readings, writes)
     }
 
-    /// Frees a place. Refused: 1 place out of range, 3 no chain is open there.
+    /// Frees a place: of its chain nothing is kept but what its reads put into caches. Refused: 1 place out of range, 3 no chain is open there.
     pub fn abandon(&mut self, place: u8) -> Result<(), EngineFault>
         ensures step { IsStep S.Reads.meaning S.Store.DEPTH (call.Abandon place) self.old result self.new }
         ensures reply { Replies (call.Abandon place) result }
@@ -187,7 +188,7 @@ impl<S: Store> Engine<S> {
         self.state.discard(position)
     }
 
-    /// How many notices wait, and how many were lost.
+    /// How many notices wait, 0 to 32, and how many were lost, where the count stays at 2^64 - 1. Never refused.
     pub fn count(&self) -> (usize, u64)
         ensures step { IsStep S.Reads.meaning S.Store.DEPTH call.Count self.now (Ok result) self.now }
         ensures reply { Replies call.Count (Ok result) }
@@ -195,8 +196,8 @@ impl<S: Store> Engine<S> {
         self.state.count()
     }
 
-    /// The store drops of each key the versions older than the newest one that is above neither the horizon nor the last
-    /// timestamp.
+    /// The store drops of each key the versions older than the newest one that is above neither the horizon, any number, nor the
+    /// last timestamp. Never refused.
     pub fn prune(&mut self, horizon: u64)
         ensures step { IsStep S.Reads.meaning S.Store.DEPTH (call.Prune horizon) self.old (Ok tt) self.new }
         ensures reply { Replies (call.Prune horizon) (Ok tt) }

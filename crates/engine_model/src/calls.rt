@@ -64,7 +64,8 @@ pub enum Call {
     },
     /// Asks how many notices wait and how many were lost.
     Count,
-    /// Lets the store drop what was over before the horizon, any number.
+    /// Lets the store drop of each key the versions older than the newest one that is above neither the horizon (any number)
+    /// nor last.
     Prune {
         horizon: u64,
     },

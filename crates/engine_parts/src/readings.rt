@@ -12,7 +12,7 @@ use std::marker::Model;
 #[derive(Drop)]
 pub struct Readings {
     list: BoundedList<LegReading, CHAIN_READINGS>,
-    /// `as`, since the length of an array calls no function
+    // `as`, since the length of an array calls no function
     read: [bool; KEYS as usize],
 }
 

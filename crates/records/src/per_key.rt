@@ -7,7 +7,7 @@ use snapshot::{KEYS, is_key};
 /// The numbers, by key.
 #[derive(Clone, Copy)]
 pub struct PerKey {
-    /// `as`, since the length of an array calls no function
+    // `as`, since the length of an array calls no function
     numbers: [u16; KEYS as usize],
 }
 

@@ -16,7 +16,7 @@ pub enum StoreCall<'a> {
     Version { key: u8, time: u64 },
     /// Commits writes at a clock reading.
     Commit { clock: u64, writes: &'a [Write] },
-    /// Drops what was over before the horizon.
+    /// Drops of each key the versions older than the newest one that is above neither the horizon nor last.
     Prune { horizon: u64 },
 }
 
