@@ -57,7 +57,8 @@ fn play_into<B: Write + Drop>(rt: &HostRuntime, book: B) -> anyhow::Result<()> {
         messages: rt.stderr(),
     };
     let played = play(rt.alloc(), &mut input, &mut outputs);
-    outputs.printed.flush()?;
+    let passed_on = outputs.printed.flush();
     played?;
+    passed_on.context("the output cannot be written")?;
     Ok(())
 }

@@ -5,12 +5,10 @@ use Rattle.std.specs.Fmt.{digit_glyph}
 use Rattle.std.specs.List.{flat_map}
 use Rattle.snapshot.specs.Accounts.{Account, head_of, lawful}
 use Rattle.snapshot.specs.Refusals.{book_fault, refusal_number}
-use Rattle.snapshot.specs.Shown.{head_text, line_break, spaced}
+use Rattle.snapshot.specs.Shown.{head_text, layer_text, line_break, spaced}
 use Rattle.snapshot.specs.declared.account.ChainReading.{ChainReading}
 use Rattle.snapshot.specs.declared.account.Write.{Write}
 use Rattle.snapshot.specs.declared.fault.Fault.{Fault}
-use Rattle.snapshot.specs.declared.fault.Layer.{Layer}
-use Rattle.snapshot.specs.declared.fault.Layer.TheVariants.{Chain, Store, Notices, Book}
 use Rattle.snapshot.specs.declared.fault.Refusal.TheVariants.{Unlawful}
 use Rattle.engine_model.specs.declared.calls.Call.{Call}
 use Rattle.engine_model.specs.declared.calls.Call.TheVariants as call
@@ -64,12 +62,6 @@ store_text Newest = codes "store newest"
 store_text (Table n) = codes "store table " ++ decimal n
 
 -- Refusals: the number, the layer, and the place, the leg and the key that the call named.
-
-abbrev pub layer_text : Layer → List ℕ
-layer_text Chain = codes "chain"
-layer_text Store = codes "store"
-layer_text Notices = codes "notices"
-layer_text Book = codes "book"
 
 abbrev pub fault_text : Fault → List ℕ
 fault_text f =

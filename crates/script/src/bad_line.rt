@@ -6,8 +6,8 @@ use crate::words::MOST_WORDS;
 use std::error::Error;
 use std::fmt;
 
-/// Why a line is bad. Where several of these hold, the first one does, in the order in which they stand here. A place is that
-/// of a word in its line, from 1.
+/// Why a line is bad. Where several apply, the line has the first of them, in the order in which they stand here. A place is
+/// that of a word in its line, from 1.
 #[derive(Clone, Copy, Debug, PartialEq, Eq)]
 pub enum BadLine {
     /// The word at this place, 1 or 2, is none that may stand there.

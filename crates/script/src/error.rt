@@ -18,8 +18,8 @@ pub enum PlayError {
     /// The messages did not take what was to be told of a bad line.
     #[error("the messages cannot be written: {0}")]
     Messages(io::Error),
-    /// There was no memory for what a line prints.
-    #[error("there is no memory for what a line prints")]
+    /// There was no memory for what a line prints or tells.
+    #[error("there is no memory for what a line prints or tells")]
     Memory,
     /// The script has 2^64 - 1 lines or more.
     #[error("the script has too many lines")]

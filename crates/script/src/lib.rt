@@ -17,6 +17,7 @@ mod writing;
 
 pub use append::Append;
 pub use bad_line::{BadLine, Wanted};
+pub use engine::{Answer, Call, Fault};
 pub use error::PlayError;
 pub use line::{Line, Request, StoreKind};
 pub use outputs::Outputs;

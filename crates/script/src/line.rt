@@ -4,7 +4,7 @@ use crate::bad_line::BadLine;
 use engine_model::Call;
 
 /// The kind of store that a script asks for; a table has so many records, 0 to 1,024.
-#[derive(Clone, Copy)]
+#[derive(Clone, Copy, Debug, PartialEq, Eq)]
 pub enum StoreKind {
     /// The newest store.
     Newest,
@@ -14,7 +14,7 @@ pub enum StoreKind {
 
 /// A call as a script names it. Only a commit names rooms, and need not: without them its lists have room for all that a
 /// chain may hold.
-#[derive(Clone, Copy)]
+#[derive(Clone, Copy, Debug, PartialEq, Eq)]
 pub struct Request {
     /// The call.
     pub call: Call,
@@ -23,7 +23,7 @@ pub struct Request {
 }
 
 /// What a line says.
-#[derive(Clone, Copy)]
+#[derive(Clone, Copy, Debug, PartialEq, Eq)]
 pub enum Line {
     /// Nothing: it has no word, or is a comment.
     Blank,

@@ -11,7 +11,7 @@ ghost use Rattle.script.specs.Sinks.{held, to_book, to_messages};
 use crate::append::Append;
 use crate::bad_line::BadLine;
 use crate::error::PlayError;
-use crate::show::{LONGEST_ACCOUNT, account_of, book_bytes};
+use crate::show::{account_of, book_bytes};
 use crate::writing::{write_bad, write_outcome};
 use book::{Account, write_whole};
 use engine::Answer;

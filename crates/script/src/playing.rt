@@ -30,7 +30,8 @@ use table_store::{NO_RECORD, Record, Table};
 /// each bad line, which says why it is bad, before its number is printed. Fails where the input cannot be read, one of the outputs
 /// cannot be written, there is no memory for a line, or the script has 2^64 - 1 lines or more. The contract speaks of inputs
 /// and outputs whose bytes are known, as in memory: each output gains all that the script writes to it, and after an error
-/// a front of it. And what a script writes shows a trace that keeps the law of traces, of whose accounts the book has the bytes.
+/// a front of it. Flushes what is printed before each read that may have to wait; that such a flush fails is not answered, so flush
+/// once more afterwards. And what a script writes shows a trace that keeps the law of traces, of whose accounts the book has the bytes.
 #[tactic(auto, using(crate::proofs::TraceProofs::prints_trace))]
 pub fn play<R: BufRead, W: Write, B: Write, M: Write>(
     heap: Global,

@@ -3,17 +3,17 @@ ghost use Rattle.std.specs.Prelude.{◌≡◌, ◌≤◌, ◌∷◌, ◌++◌, O
 ghost use Rattle.std.specs.List.{flat_map};
 ghost use Rattle.snapshot.specs.Accounts.{lawful};
 ghost use Rattle.snapshot.specs.Refusals.{book_fault};
-ghost use Rattle.snapshot.specs.Shown.{line_break};
+ghost use Rattle.snapshot.specs.Shown.{layer_text, line_break};
 ghost use Rattle.snapshot.specs.declared.fault.Refusal.TheVariants as refusal;
 ghost use Rattle.book.specs.Format.{account_bytes, as_account};
 ghost use Rattle.script.specs.Shown as spec;
 
 use crate::append::{Append, append_numbers};
 use crate::line::{Request, StoreKind};
-use book::Account;
+use book::{Account, LONGEST_ACCOUNT};
 use engine::{Answer, CommittedAccount};
 use engine_model::Call;
-use snapshot::{CHAIN_READINGS, ChainReading, Fault, Layer, Reading, WRITE_KEYS, Write};
+use snapshot::{ChainReading, Fault, Layer, Reading, Write};
 use std::alloc::AllocError;
 
 // The kind's word; of a table also how many records it has.
@@ -171,7 +171,7 @@ impl Append for Fault {
 
 // The layer's word, behind a space.
 fn layer_word(layer: Layer) -> &'static [u8]
-    ensures { result.now ≡ 32 ∷ spec.layer_text layer }
+    ensures { result.now ≡ 32 ∷ layer_text layer }
 {
     match layer {
         Layer::Chain => b" chain",
@@ -180,9 +180,6 @@ fn layer_word(layer: Layer) -> &'static [u8]
         Layer::Book => b" book",
     }
 }
-
-// The bytes of the longest account: 29 for its head and its last byte, and the most readings and writes.
-pub(crate) const LONGEST_ACCOUNT: usize = 29 + 22 * CHAIN_READINGS + 5 * WRITE_KEYS;
 
 // An account: a line with its five numbers, one for each reading and each write, and one with its bytes in the book.
 impl Append for Account<'_> {
