@@ -13,7 +13,7 @@ use crate::bad_line::BadLine;
 use crate::error::PlayError;
 use crate::show::{account_of, book_bytes};
 use crate::writing::{write_bad, write_outcome};
-use book::{Account, write_whole};
+use book::{Account, LONGEST_ACCOUNT, write_whole};
 use engine::Answer;
 use snapshot::Fault;
 use std::io::Write;
