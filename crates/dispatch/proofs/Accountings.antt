@@ -28,7 +28,7 @@ use Rattle.engine_model.specs.declared.calls.Call.TheVariants as call
 use Rattle.engine.proofs.CommitLemmas.{account_shown}
 use Rattle.engine.specs.declared.engine.Engine.{Engine as Running}
 use Rattle.engine.specs.EngineLaw.{AddsAccount, InEveryTrace}
-use Rattle.dispatch.specs.Accounting.{Accounted, AccountedOnceThereIsRoom, Held, RefusedAsFull, pruned}
+use Rattle.dispatch.specs.Accounting.{Accounted, AccountedOnceThereIsRoom, Commits, Held, RefusedAsFull, pruned}
 
 -- a lawful account goes from the greatest timestamp to the least promise
 agreed : (a : Account) → lawful a ≡ true → agreed_ends a.low a.high a.readings ≡ true
@@ -60,10 +60,11 @@ accounted depth before p l clock a law store trace same led =
 
 -- an account of a commit that was accepted once the store was pruned
 pub once_pruned :
-    (depth : ℕ) (before after : Engine) (p l clock horizon : ℕ) (a : Account) → RefusedAsFull depth before p l clock →
-    pruned horizon before ≡ after → Accounted depth after p l clock a → AccountedOnceThereIsRoom depth before p l clock horizon a
-once_pruned depth before after p l clock horizon a full is all =
-    inr (full, subst (λ e. Accounted depth e p l clock a) (sym is) all)
+    (depth : ℕ) (before between after : Engine) (p l clock horizon : ℕ) (a : Account) → RefusedAsFull depth before p l clock →
+    pruned horizon before ≡ between → Commits depth between p l clock a after → Accounted depth between p l clock a →
+    AccountedOnceThereIsRoom depth before p l clock horizon a after
+once_pruned depth before between after p l clock horizon a full is commits all =
+    inr (full, subst (λ e. Commits depth e p l clock a after × Accounted depth e p l clock a) (sym is) (commits, all))
 
 -- the lists that a commit has filled are as long as its answer says, or longer
 abbrev answered : AccountHead → Result AccountHead EngineFault → AccountHead

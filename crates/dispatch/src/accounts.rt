@@ -1,10 +1,10 @@
 //! Commits, and the book of their accounts.
-ghost use Rattle.std.specs.Prelude.{◌≡◌, ◌++◌, IfOk, OnOk, OnErr};
+ghost use Rattle.std.specs.Prelude.{◌≡◌, ◌++◌, ◌⊎◌, IfOk, OnOk, OnErr};
 ghost use Rattle.book.specs.Format.{account_bytes, as_account};
 ghost use Rattle.snapshot.specs.Limits.{chain_readings, write_keys};
 ghost use Rattle.engine_model.specs.declared.calls.Call.TheVariants as call;
 ghost use Rattle.engine.specs.Engines.{engine_of, IsStep};
-ghost use Rattle.dispatch.specs.Accounting.{Accounted, AccountedOnceThereIsRoom};
+ghost use Rattle.dispatch.specs.Accounting.{Accounted, AccountedOnceThereIsRoom, OnlyPruned};
 
 use crate::site::PLACE;
 use book::Account;
@@ -17,7 +17,8 @@ use std::marker::Model;
 use store::Store;
 
 /// The account of a committed chain: its five numbers, and lists with room for every account, of which its readings and its
-/// writes fill the starts.
+/// writes fill the starts. As the engine's `CommittedAccount`, which only `perform` answers: here the commit fills lists of the
+/// caller's.
 #[derive(Drop)]
 pub struct Committed {
     head: AccountHead,
@@ -73,7 +74,8 @@ fn commit_once<S: Store>(
 }
 
 // Commits the chain by a leg, and answers its account. Where the store has no room (14), it is pruned up to the horizon, and
-// the chain commits then: a refused commit changes nothing, and leaves the chain open.
+// the chain commits then: a refused commit changes nothing, and leaves the chain open. An error leaves the engine as it was, or
+// pruned where the commit was refused so.
 fn commit<S: Store>(
     rt: &impl Print,
     engine: &mut Engine<S>,
@@ -81,7 +83,8 @@ fn commit<S: Store>(
     clock: u64,
     horizon: u64,
 ) -> anyhow::Result<Committed>
-    ensures { IfOk result (λ account. AccountedOnceThereIsRoom S.Store.DEPTH (engine_of S.Reads.meaning engine.old) PLACE leg clock horizon account) }
+    ensures accounted { IfOk result (λ account. AccountedOnceThereIsRoom S.Store.DEPTH (engine_of S.Reads.meaning engine.old) PLACE leg clock horizon account (engine_of S.Reads.meaning engine.new)) }
+    ensures refused { OnErr result ((engine.new ≡ engine.old) ⊎ OnlyPruned S.Store.DEPTH (engine_of S.Reads.meaning engine.old) PLACE leg clock horizon (engine_of S.Reads.meaning engine.new)) }
 {
     match commit_once(engine, leg, clock) {
         Ok(committed) => Ok(committed),
@@ -122,7 +125,7 @@ pub fn commit_to_book<S: Store>(
     clock: u64,
     horizon: u64,
 ) -> anyhow::Result<Committed>
-    ensures accounted { IfOk result (λ account. AccountedOnceThereIsRoom S.Store.DEPTH (engine_of S.Reads.meaning engine.old) PLACE leg clock horizon account) }
+    ensures accounted { IfOk result (λ account. AccountedOnceThereIsRoom S.Store.DEPTH (engine_of S.Reads.meaning engine.old) PLACE leg clock horizon account (engine_of S.Reads.meaning engine.new)) }
     ensures added { IfOk result (λ account. book.new.items ≡ book.old.items ++ account_bytes account) }
     ensures unchanged { OnErr result (book.new.items ≡ book.old.items) }
 {

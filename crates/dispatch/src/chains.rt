@@ -11,7 +11,8 @@ use engine::Engine;
 use snapshot::{EngineFault, Refusal, WORKERS};
 use store::Store;
 
-/// Writes what a sensor or the staff tell: keys with their values.
+/// Writes what a sensor or the staff tell: keys of 0 to 63 with their values. Answers the leg that is to commit.
+/// Refused: 7 there are more than 8 keys. Where a call is refused, the chain stays open at `PLACE`.
 pub fn note<S: Store>(engine: &mut Engine<S>, writes: &[(u8, u32)]) -> Result<u8, EngineFault> {
     let leg = engine.begin(PLACE, FRONT)?;
     for (key, value) in writes {
@@ -20,7 +21,8 @@ pub fn note<S: Store>(engine: &mut Engine<S>, writes: &[(u8, u32)]) -> Result<u8
     Ok(leg)
 }
 
-/// Looks at the zone on one worker, and then at the set record on another.
+/// Looks at the zone on one worker, and then at the set record on another. Answers the leg that is to commit.
+/// Refused: 15 the store has dropped the version. Where a call is refused, the chain stays open at `PLACE`.
 pub fn look<S: Store>(engine: &mut Engine<S>) -> Result<u8, EngineFault> {
     let first = engine.begin(PLACE, ZONE_WORKER)?;
     engine.read(PLACE, first, ZONE)?;
@@ -30,7 +32,9 @@ pub fn look<S: Store>(engine: &mut Engine<S>) -> Result<u8, EngineFault> {
 }
 
 /// Sends the guard to the door at which somebody is: one worker looks at the zone, another at who the keyholder is, and the
-/// order is written where both were true at one time.
+/// order is written where both were true at one time. The number of the attempt chooses the workers. Answers the leg that is to
+/// commit. Refused: 6 the two were never true at one time, 15 the store has dropped the version. Where a call is refused, the
+/// chain stays open at `PLACE`.
 pub fn order<S: Store>(engine: &mut Engine<S>, attempt: u8) -> Result<u8, EngineFault> {
     let zone_worker = on_attempt(ZONE_WORKER, attempt);
     let keyholder_worker = on_attempt(KEYHOLDER_WORKER, attempt);
@@ -43,7 +47,9 @@ pub fn order<S: Store>(engine: &mut Engine<S>, attempt: u8) -> Result<u8, Engine
     Ok(joined)
 }
 
-/// Reports the door at which somebody was seen while the alarm was set; 0 where it was not.
+/// Reports the door at which somebody was seen while the alarm was set; 0 where it was not. The number of the attempt chooses the
+/// worker. Answers the leg that is to commit. Refused: 15 the store has dropped the version. Where a call is refused, the chain
+/// stays open at `PLACE`.
 pub fn report<S: Store>(engine: &mut Engine<S>, attempt: u8) -> Result<u8, EngineFault> {
     let leg = engine.begin(PLACE, on_attempt(SET_WORKER, attempt))?;
     let set = engine.read(PLACE, leg, SET_RECORD)?;
@@ -60,8 +66,9 @@ fn on_attempt(worker: u8, attempt: u8) -> u8
 }
 
 // Makes the calls of a chain, which is told the number of the attempt, from 0. Where what it has read was never true at one
-// time (6), or a version is gone (15), the waiting notices are delivered, and the chain is abandoned and begun again, with at
-// most `ATTEMPTS` attempts in all.
+// time (6), or a version is gone (15), the chain is abandoned, the waiting notices are delivered, and the chain is begun again,
+// with at most `ATTEMPTS` attempts in all. At any other refusal, and at any at the last attempt, the chain is abandoned, and the
+// refusal is answered.
 pub(crate) fn retry<S: Store, F: Fn(&mut Engine<S>, u8) -> Result<u8, EngineFault>>(
     rt: &impl Print,
     engine: &mut Engine<S>,
@@ -72,15 +79,18 @@ pub(crate) fn retry<S: Store, F: Fn(&mut Engine<S>, u8) -> Result<u8, EngineFaul
     for attempt in 0..ATTEMPTS {
         match chain(engine, attempt) {
             Ok(leg) => return Ok(leg),
-            Err(fault) if may_pass(fault.fault.refusal) => {
+            Err(fault) if may_pass(fault.fault.refusal) && attempt + 1 < ATTEMPTS => {
+                engine.abandon(PLACE)?;
                 println!(rt; "  refused {}: begun again", fault.fault.refusal.number())?;
                 deliver_all(engine)?;
-                engine.abandon(PLACE)?;
             }
-            Err(fault) => return Err(fault.into()),
+            Err(fault) => {
+                engine.abandon(PLACE)?;
+                return Err(fault.into());
+            }
         }
     }
-    bail!("refused at each of {ATTEMPTS} attempts")
+    bail!("no attempt was made")
 }
 
 // Can the same chain be accepted later, or on other workers?

@@ -10,5 +10,5 @@ pub returns-in_ok-commit_once-in-Err : goal.returns-in_ok-commit_once-in-Err
 returns-in_ok-commit_once-in-Err g c =
     let full : c.in-Err.field-0.fault.refusal ≡ CapacityExceeded = search rules in
     let same = ap (λ e. pruned c.args.horizon (engine_of g.S.Reads.meaning e)) (sym c.in-Err.ensures.unchanged) in
-    once_pruned _ _ _ _ _ _ _ _ (c.in-Err.field-0, ap (λ x. x.0) c.in-Err.ensures.step, full)
-    (same ∙ sym (ap (λ x. x.1) c.prune.ensures.step)) c.in_ok-commit_once-in-Err.ensures.accounted
+    once_pruned _ _ _ _ _ _ _ _ _ (c.in-Err.field-0, ap (λ x. x.0) c.in-Err.ensures.step, full)
+    (same ∙ sym (ap (λ x. x.1) c.prune.ensures.step)) c.in_ok-commit_once-in-Err.ensures.step c.in_ok-commit_once-in-Err.ensures.accounted
