@@ -64,7 +64,8 @@ pub once_pruned :
     pruned horizon before ≡ between → Commits depth between p l clock a after → Accounted depth between p l clock a →
     AccountedOnceThereIsRoom depth before p l clock horizon a after
 once_pruned depth before between after p l clock horizon a full is commits all =
-    inr (full, subst (λ e. Commits depth e p l clock a after × Accounted depth e p l clock a) (sym is) (commits, all))
+    let both = subst (λ e. Commits depth e p l clock a after × Accounted depth e p l clock a) (sym is) (commits, all) in
+    inr (full, both.0, both.1)
 
 -- the lists that a commit has filled are as long as its answer says, or longer
 abbrev answered : AccountHead → Result AccountHead EngineFault → AccountHead

@@ -7,7 +7,7 @@ ghost use Rattle.engine.specs.Engines.{engine_of, IsStep};
 ghost use Rattle.dispatch.specs.Accounting.{Accounted, AccountedOnceThereIsRoom, OnlyPruned};
 
 use crate::site::PLACE;
-use book::Account;
+use book::{Account, LONGEST_ACCOUNT};
 use engine::Engine;
 use snapshot::{
     AccountHead, CHAIN_READINGS, ChainReading, EngineFault, NO_READING, NO_WRITE, Refusal,
@@ -96,9 +96,6 @@ fn commit<S: Store>(
         Err(fault) => Err(fault.into()),
     }
 }
-
-// The bytes of the longest account: 29 for its head and its last byte, 22 for a reading and 5 for a write.
-const LONGEST_ACCOUNT: usize = 29 + 22 * CHAIN_READINGS + 5 * WRITE_KEYS;
 
 // Adds the account's bytes to the end of the book.
 fn add_to(book: &mut Vec<u8>, account: &Account) -> anyhow::Result<()>
