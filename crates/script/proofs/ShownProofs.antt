@@ -1,6 +1,6 @@
 -- Numbers, each behind a space.
-use Rattle.std.proofs.Common.{◌≡◌, ℕ, ◌+◌, ◌-◌, ◌*◌, ◌^◌, ◌<◌, ◌≤◌, List, [], ◌∷◌, ◌++◌, length, get_or, drop, set, decimal, refl, sym, ap, ◌∙◌, arith, append-nil}
-use Rattle.std.proofs.lemmas.List.{at_drop_more, drop-set, drop_all}
+use Rattle.std.proofs.Common.{◌≡◌, ℕ, ◌+◌, ◌-◌, ◌<◌, ◌≤◌, List, [], ◌∷◌, ◌++◌, length, get_or, drop, set, decimal, refl, sym, ap, ◌∙◌, arith, append-nil}
+use Rattle.std.proofs.lemmas.List.{at_drop_more, drop-set}
 use Rattle.script.specs.Shown.{numbers_text}
 
 more : (n : ℕ) (ns : List ℕ) → numbers_text (n ∷ ns) ≡ 32 ∷ (decimal n ++ numbers_text ns)

@@ -1,7 +1,6 @@
 -- What was written to each output, where the writing to one of them ends with an error.
-use Rattle.std.proofs.Common.{◌≡◌, Bool, true, false, List, [], ℕ, ◌<◌, Option, Some, None, Result, Ok, Err, length, refl, sym, subst, arith, append-nil, length-append}
+use Rattle.std.proofs.Common.{◌≡◌, Bool, true, false, List, [], ℕ, ◌<◌, Option, Result, Ok, Err, length, refl, sym, subst, arith, append-nil, length-append}
 use Rattle.std.proofs.KnownBytes.{Appends-nil}
-use Rattle.std.specs.Prelude.{IfSome}
 use Rattle.snapshot.specs.declared.fault.Fault.{Fault}
 use Rattle.engine.specs.declared.answer.Answer.{Answer}
 use Rattle.std.specs.Io.KnownBytes.{Appends}

@@ -1,7 +1,10 @@
 //! Tables against a plain list of records: after each of many calls the answer and the whole memory are compared with what the
 //! rules make of the list, and after each prune every version that the table can be asked for.
 use crate::chance::Chance;
-use snapshot::{Fault, KEYS, LEAST_RECORDS, Layer, MOST_RECORDS, NO_WRITE, OPEN_END, Reading, Refusal, WRITE_KEYS, Write};
+use snapshot::{
+    Fault, KEYS, LEAST_RECORDS, Layer, MOST_RECORDS, NO_WRITE, OPEN_END, Reading, Refusal,
+    WRITE_KEYS, Write,
+};
 use std::alloc::{AllocError, Global};
 use std::process::Abort;
 use std::test::Fail;

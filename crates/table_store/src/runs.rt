@@ -6,8 +6,8 @@ ghost use Rattle.records.specs.Layouts.{record_depth};
 ghost use Rattle.records.specs.Slices.{is_table_size};
 ghost use Rattle.record_store.specs.Tables.{HoldsOnly, capacity_of};
 
-use records::Record;
 use record_store::Table;
+use records::Record;
 use std::alloc::AllocError;
 use store::{StoreAnswer, StoreCall, run};
 

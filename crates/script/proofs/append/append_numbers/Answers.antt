@@ -1,5 +1,5 @@
 -- One number more is written before the others, and a space before it.
-use Rattle.std.proofs.Common.{rules, arith, ℕ, ◌≡◌, ◌+◌, ◌-◌, ◌≤◌, ◌++◌, ◌∙◌, ap, sym, refl, length, get_or, drop, decimal}
+use Rattle.std.proofs.Common.{arith, ℕ, ◌≡◌, ◌+◌, ◌-◌, ◌≤◌, ◌++◌, ◌∙◌, ap, length, get_or, drop, decimal}
 use Rattle.std.proofs.lemmas.Fmt.{length-decimal-le}
 use Rattle.script.specs.Shown.{numbers_text}
 use Rattle.script.proofs.ShownProofs.{one_more_written}

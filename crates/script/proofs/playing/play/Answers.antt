@@ -1,5 +1,4 @@
 -- Each output by itself.
-use Rattle.std.proofs.Common.{◌≡◌}
 use Rattle.script.specs.Sinks.{to_printed, to_book, to_messages}
 use Rattle.script.proofs.playing.play.Goals as goal
 

@@ -3,7 +3,7 @@ use Rattle.std.proofs.Common.{◌≡◌, ◌+◌, ◌++◌, Err, refl, sym, ap, 
 use Rattle.std.specs.Io.BufRead.{drop_through}
 use Rattle.engine.specs.Engines.{engine_of}
 use Rattle.script.specs.Played.{line_text, parsed_lines, played_on}
-use Rattle.script.specs.Sinks.{Sink, held}
+use Rattle.script.specs.Sinks.{held}
 use Rattle.script.proofs.PlayProofs.{flushed, ends, steps, uncounted, unread, unwritten}
 use Rattle.script.proofs.playing.play_on.Goals as goal
 

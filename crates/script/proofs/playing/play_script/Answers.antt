@@ -3,7 +3,7 @@ use Rattle.std.proofs.Common.{◌≡◌, ◌+◌, ◌∷◌, [], Some, Err, refl
 use Rattle.std.proofs.KnownBytes.{Appends-nil}
 use Rattle.script.specs.Played.{played, parsed_lines, bad_parts, script_text}
 use Rattle.script.specs.declared.line.Line.TheVariants as line
-use Rattle.script.specs.Sinks.{Sink, held}
+use Rattle.script.specs.Sinks.{held}
 use Rattle.script.proofs.PlayProofs.{flushed, closes, ends, steps, uncounted, unread, unwritten}
 use Rattle.script.proofs.playing.play_script.Goals as goal
 use Rattle.script.proofs.playing.play_script.Goals.{in-Blank, in-Bad+in_ok-write_bad-in-Bad}

@@ -1,5 +1,5 @@
 -- The digits are those of the bytes.
-use Rattle.std.proofs.Common.{rules, arith}
+use Rattle.std.proofs.Common.{rules}
 use Rattle.script.proofs.HexProofs.{encoded}
 use Rattle.script.proofs.show.append_hex.Goals as goal
 

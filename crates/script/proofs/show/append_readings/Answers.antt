@@ -1,5 +1,5 @@
 -- The line of one more reading is added.
-use Rattle.std.proofs.Common.{rules, arith, ◌≡◌, ◌++◌, ◌∙◌, ap, get_or, append_assoc}
+use Rattle.std.proofs.Common.{rules, arith, ◌≡◌, ◌++◌, ap, get_or, append_assoc}
 use Rattle.snapshot.specs.declared.account.ChainReading.{ChainReading}
 use Rattle.script.specs.Shown.{reading_line}
 use Rattle.script.proofs.ListProofs.{lines_more}

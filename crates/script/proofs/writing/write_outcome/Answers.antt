@@ -1,6 +1,5 @@
 -- Where there is no memory for the text, none of it was written.
 use Rattle.std.proofs.Common.{◌≡◌, Err, rules}
-use Rattle.script.specs.Played.{result_line}
 use Rattle.script.specs.Shown.{lent_outcome}
 use Rattle.script.specs.declared.error.PlayError.TheVariants.{Memory}
 use Rattle.script.proofs.WritingProofs.{no_memory}

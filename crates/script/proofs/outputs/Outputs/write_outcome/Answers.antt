@@ -1,9 +1,7 @@
 -- The account's bytes come first, and then the line.
-use Rattle.std.proofs.Common.{◌≡◌, [], Err, IfSome, rules, arith, length-append}
-use Rattle.script.specs.Failures.{AddsAll, Writes}
-use Rattle.script.specs.Played.{result_line, result_parts}
+use Rattle.std.proofs.Common.{◌≡◌, [], Err, rules, arith, length-append}
+use Rattle.script.specs.Played.{result_line}
 use Rattle.script.specs.Shown.{booked_bytes, lent_outcome}
-use Rattle.script.specs.Sinks.{each_sink, held, to_printed}
 use Rattle.script.proofs.WritingProofs.{book_failed, then_printed}
 use Rattle.std.proofs.KnownBytes.{Appends-nil}
 use Rattle.script.proofs.outputs.Outputs.write_outcome.Goals as goal
