@@ -5,36 +5,34 @@ use snapshot::{BookFault, EngineFault, Fault, Layer, NOT_NAMED, Refusal};
 use std::process::Abort;
 use std::test::Fail;
 
-// Every refusal, in the order of its number from 1 on.
-const REFUSALS: [Refusal; 21] = [
-    Refusal::OutOfRange,
-    Refusal::PlaceOccupied,
-    Refusal::NotOpen,
-    Refusal::SameLeg,
-    Refusal::TooManyLegs,
-    Refusal::IntervalsApart,
-    Refusal::WriteSetFull,
-    Refusal::ReadingsFull,
-    Refusal::AnotherLegOpen,
-    Refusal::TooShort,
-    Refusal::UnfitWrites,
-    Refusal::ClockTooHigh,
-    Refusal::NoTimeLeft,
-    Refusal::CapacityExceeded,
-    Refusal::VersionGone,
-    Refusal::NoSuchNotice,
-    Refusal::UnfitMemory,
-    Refusal::AccountCut,
-    Refusal::WrongMark,
-    Refusal::WrongLastByte,
-    Refusal::Unlawful,
+// Every refusal with its number.
+const REFUSALS: [(u8, Refusal); 21] = [
+    (1, Refusal::OutOfRange),
+    (2, Refusal::PlaceOccupied),
+    (3, Refusal::NotOpen),
+    (4, Refusal::SameLeg),
+    (5, Refusal::TooManyLegs),
+    (6, Refusal::IntervalsApart),
+    (7, Refusal::WriteSetFull),
+    (8, Refusal::ReadingsFull),
+    (9, Refusal::AnotherLegOpen),
+    (10, Refusal::TooShort),
+    (11, Refusal::UnfitWrites),
+    (12, Refusal::ClockTooHigh),
+    (13, Refusal::NoTimeLeft),
+    (14, Refusal::CapacityExceeded),
+    (15, Refusal::VersionGone),
+    (16, Refusal::NoSuchNotice),
+    (17, Refusal::UnfitMemory),
+    (18, Refusal::AccountCut),
+    (19, Refusal::WrongMark),
+    (20, Refusal::WrongLastByte),
+    (21, Refusal::Unlawful),
 ];
 
 #[test]
 fn refusal_is_a_sentence_with_its_number(rt: HostRuntime) -> Result<(), Fail> {
-    let mut number = 0;
-    for refusal in REFUSALS {
-        number += 1;
+    for (number, refusal) in REFUSALS {
         let text = format!(in rt.alloc(); "{refusal}")?;
         let begins = format!(in rt.alloc(); "refused with {number}: ")?;
         assert!(rt; text.as_str().starts_with(begins.as_str()), "{refusal:?}");
