@@ -141,17 +141,20 @@ fn account_of_which_a_byte_is_printed_is_in_the_book(rt: HostRuntime) -> Result<
         assert!(rt; matches!(played, Err(PlayError::Output(_))));
         assert!(rt; whole.book.as_slice().starts_with(outputs.book.as_slice()));
         let printed = outputs.printed.taken.as_slice();
-        let mut size = 0;
+        let mut committed = Vec::new(rt.alloc());
         // the line of a commit that is accepted begins so
         for (line, account) in ["commit 0 0 4 ->", "commit 2 0 0 ->", "commit 3 0 2 ->"]
             .iter()
             .zip(ACCOUNTS.iter())
         {
             if has_line(printed, line.as_bytes()) {
-                size += account.len();
+                committed.extend_from_slice(account)?;
             }
         }
-        assert!(rt; outputs.book.len() >= size, "{room}");
+        assert!(rt;
+            outputs.book.as_slice().starts_with(committed.as_slice()),
+            "{room}"
+        );
     }
     Ok(())
 }

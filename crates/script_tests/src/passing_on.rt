@@ -10,11 +10,12 @@ const SCRIPT: &[u8] = b"count\nbad\nabandon 7\n";
 
 const PRINTED: &[u8] =
     b"count -> waiting 0 lost 0\nbad 2\nabandon 7 -> refused 1 chain 7 255 255\n";
+
 // How many bytes the first lines print.
 const SIZES: [usize; 4] = [0, 26, 32, 71];
 
 // A reader that shows so many bytes at most, and waits for more only once these were consumed. Where it is interrupted, every
-// other time that it would wait is.
+// other time that it would wait is. Where it breaks, it fails in place of its end.
 #[derive(Drop)]
 struct SlowReader {
     left: &'static [u8],
@@ -22,6 +23,7 @@ struct SlowReader {
     most: usize,
     interrupts: bool,
     is_interrupted: bool,
+    breaks: bool,
 }
 
 fn slow(bytes: &'static [u8], most: usize) -> SlowReader {
@@ -31,6 +33,7 @@ fn slow(bytes: &'static [u8], most: usize) -> SlowReader {
         most,
         interrupts: false,
         is_interrupted: false,
+        breaks: false,
     }
 }
 
@@ -42,6 +45,9 @@ impl io::Read for SlowReader {
 
 impl io::BufRead for SlowReader {
     fn fill_buf(&mut self) -> io::Result<&[u8]> {
+        if self.breaks && self.left.is_empty() {
+            return Err(broken());
+        }
         if self.shown == 0 {
             self.is_interrupted = self.interrupts && !self.is_interrupted;
             if self.is_interrupted {
@@ -98,16 +104,17 @@ fn newlines(bytes: &[u8]) -> usize {
 fn answers_are_passed_on_before_each_read_that_may_wait_and_at_no_other_time(
     rt: HostRuntime,
 ) -> Result<(), Fail> {
-    for most in 1..=SCRIPT.len() {
+    for more in 0..SCRIPT.len() {
+        let most = more + 1;
         let mut outputs = only_printed(noting(rt.alloc()));
         play(rt.alloc(), &mut slow(SCRIPT, most), &mut outputs)?;
         assert_eq!(rt; outputs.printed.taken.as_slice(), PRINTED);
         // the reader waits once for each piece, and once for the end; by then the lines in the pieces before were played
         let mut expected = Vec::new(rt.alloc());
-        let mut read = 0;
-        while read < SCRIPT.len() {
-            expected.push(SIZES[newlines(&SCRIPT[..read]).min(3)])?;
-            read += most;
+        for read in 0..SCRIPT.len() {
+            if read % most == 0 {
+                expected.push(SIZES[newlines(&SCRIPT[..read]).min(3)])?;
+            }
         }
         expected.push(PRINTED.len())?;
         assert_eq!(rt;
@@ -233,8 +240,9 @@ fn reader_that_fails_in_mid_stream_ends_the_playing_after_the_lines_before(
 ) -> Result<(), Fail> {
     for whole in 0..=SCRIPT.len() {
         let mut outputs = only_printed(noting(rt.alloc()));
-        let mut input = BreakingReader {
-            shown: slow(&SCRIPT[..whole], 4),
+        let mut input = SlowReader {
+            breaks: true,
+            ..slow(&SCRIPT[..whole], 4)
         };
         let played = play(rt.alloc(), &mut input, &mut outputs);
         assert!(rt;
@@ -246,29 +254,4 @@ fn reader_that_fails_in_mid_stream_ends_the_playing_after_the_lines_before(
         assert!(rt; outputs.printed.flushes.as_slice().last() == Some(&size));
     }
     Ok(())
-}
-
-// A slow reader that fails where it would end.
-#[derive(Drop)]
-struct BreakingReader {
-    shown: SlowReader,
-}
-
-impl io::Read for BreakingReader {
-    fn read(&mut self, _bytes: &mut [u8]) -> io::Result<usize> {
-        Err(broken())
-    }
-}
-
-impl io::BufRead for BreakingReader {
-    fn fill_buf(&mut self) -> io::Result<&[u8]> {
-        if self.shown.left.is_empty() {
-            return Err(broken());
-        }
-        self.shown.fill_buf()
-    }
-
-    fn consume(&mut self, amount: usize) {
-        self.shown.consume(amount);
-    }
 }
