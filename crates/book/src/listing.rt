@@ -3,7 +3,7 @@ ghost use Rattle.std.specs.Prelude.{◌≡◌, ◌+◌, ◌/◌, ◌≤◌, true
 ghost use Rattle.book.specs.Books.{ListedBehind, ReadBehind, AccountOrRefused, listing_text};
 ghost use Rattle.book.specs.Format.{size_of};
 
-use crate::reader::{AccountAt, account_at};
+use crate::reader::{AccountAt, Lists, account_at};
 use snapshot::{AccountHead, BookFault};
 use std::alloc::AllocError;
 use std::fmt;
@@ -19,10 +19,11 @@ pub fn read_book(book: &[u8], heads: &mut Vec<AccountHead>) -> Result<Option<Boo
     ensures full { OnErr result (vec_capacity heads.old ≤ vec_len heads.new) }
     ensures succeeds { vec_len heads.old + length book.now / size_of 0 0 ≤ vec_capacity heads.old → is_ok result ≡ true }
 {
+    let mut lists = Lists::new();
     // a `while`: how far the next account reaches is known only once it is read
     let mut start = 0;
     while start < book.len() {
-        match read_head(book, start) {
+        match read_head(book, start, &mut lists) {
             Ok(read) => {
                 heads.push(read.head)?;
                 start = read.end;
@@ -33,12 +34,12 @@ pub fn read_book(book: &[u8], heads: &mut Vec<AccountHead>) -> Result<Option<Boo
     Ok(None)
 }
 
-// The five numbers of the account at this place, and the place after it.
-fn read_head(book: &[u8], start: usize) -> Result<AccountAt, BookFault>
+// The five numbers of the account at this place, and the place after it; its readings and writes go into these lists.
+fn read_head(book: &[u8], start: usize, lists: &mut Lists) -> Result<AccountAt, BookFault>
     ensures { AccountOrRefused book.now start result }
 {
-    let stored = account_at(book, start)?;
-    Ok(stored.account().located(start))
+    let found = account_at(book, start, lists)?;
+    Ok(found.account().located(start))
 }
 
 /// A listing's text: a line for each account with its five numbers; then `end` and the number of accounts, or `bad`, the

@@ -1,12 +1,13 @@
 //! From an input to an output: the listing of the book that the input has.
-ghost use Rattle.std.specs.Prelude.{◌<◌, length, drop, take, IfOk, IfSome, MatchResult, OnErr, OnOk, string_bytes};
+ghost use Rattle.std.specs.IoError.{error_kind};
+ghost use Rattle.std.specs.Prelude.{◌≡◌, ◌<◌, length, drop, take, IfOk, IfSome, MatchResult, OnErr, OnOk, string_bytes};
 ghost use Rattle.std.specs.Io.{WritesAtMost};
 ghost use Rattle.std.specs.Io.KnownBytes.{Appends, Keeps, WriteAppends};
 ghost use Rattle.book.specs.Books.{Covers, GainsFront, GainsListing, IsFrontOf, ListsBook, most_bytes};
 ghost use Rattle.book.specs.Outputs.{AppendsFront};
 
 use crate::listing::{Listing, read_book};
-use std::alloc::Global;
+use std::alloc::{AllocError, Global};
 use std::io::{self, ErrorKind, Read, Write};
 
 // How many bytes of an input count.
@@ -46,12 +47,19 @@ fn listed_text(heap: Global, book: &[u8]) -> io::Result<String>
     ensures { IfOk result (λ text. ListsBook book.now (string_bytes text)) }
 {
     let mut heads = Vec::new(heap);
-    let ending = read_book(book, &mut heads)?;
+    let ending = read_book(book, &mut heads).map_err(no_memory)?;
     let listing = Listing {
         heads: heads.as_slice(),
         ending,
     };
-    Ok(format!(in heap; "{listing}")?)
+    format!(in heap; "{listing}").map_err(no_memory)
+}
+
+// Want of memory, in the words of std's own error.
+fn no_memory(_: AllocError) -> io::Error
+    ensures { error_kind result ≡ ErrorKind.OutOfMemory }
+{
+    io::Error::new(ErrorKind::OutOfMemory, "memory allocation failed")
 }
 
 // The bytes of the input that count, and whether more follow: one byte more is asked for.

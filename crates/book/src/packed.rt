@@ -120,19 +120,19 @@ pub(crate) fn pack_all<T: Packed>(records: &[T], room: &mut [u8])
     }
 }
 
-// The records that stand one after another at the front of the bytes, so many.
+// Fills the list with the records that stand one after another at the front of the bytes, so many, and nothing else.
 #[tactic(auto, using(crate::proofs::Records::length_records))]
 pub(crate) fn unpack_all<T: Packed + Default + Drop, const MOST: usize>(
     bytes: &[u8],
     count: usize,
-) -> ArrayVec<T, MOST>
+    records: &mut ArrayVec<T, MOST>,
+)
     requires room { count ≤ MOST }
     requires fits { T.SIZE * count ≤ length bytes.now }
-    ensures { result.items ≡ records_from T.unpacked T.SIZE count bytes.now }
+    ensures { records.new.items ≡ records_from T.unpacked T.SIZE count bytes.now }
 {
-    let mut records = ArrayVec::new();
+    records.clear();
     for i in 0..count {
         records.push(T::unpack(&bytes[T::SIZE * i..]));
     }
-    records
 }

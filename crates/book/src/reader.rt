@@ -1,6 +1,6 @@
 //! Reading an account at a place of a book into two lists of the caller's.
-ghost use Rattle.std.specs.Prelude.{◌≡◌, ◌+◌, ◌^◌, ◌<◌, ◌≤◌, if◌then◌else◌, length, drop, IfOk, None, Ok, Some};
-ghost use Rattle.snapshot.specs.Accounts.{head_of, lawful};
+ghost use Rattle.std.specs.Prelude.{◌≡◌, ◌+◌, ◌^◌, ◌<◌, ◌≤◌, [], length, drop, IfOk, Ok};
+ghost use Rattle.snapshot.specs.Accounts.{head_of};
 ghost use Rattle.snapshot.specs.Limits.{chain_readings, write_keys};
 ghost use Rattle.snapshot.specs.Overwriting.{overwritten};
 ghost use Rattle.book.specs.Calls.{faulted, located, read_at, filled_readings, filled_writes};
@@ -35,77 +35,46 @@ pub(crate) struct Counts {
     writes: usize,
 }
 
-// An account with memory of its own.
+// Memory for the readings and the writes of one account.
 #[derive(Drop)]
-struct Stored {
-    interval: Interval,
-    timestamp: u64,
+pub(crate) struct Lists {
     readings: ArrayVec<ChainReading, CHAIN_READINGS>,
     writes: ArrayVec<Write, WRITE_KEYS>,
 }
 
-impl Model for Stored {
-    ghost use Rattle.snapshot.specs.Accounts.{Account};
-
-    ghost Value = { Account };
-
-    ghost view = { λ s. record {
-      low = s.interval.low;
-      high = s.interval.high;
-      timestamp = s.timestamp;
-      readings = s.readings.items;
-      writes = s.writes.items;
-    } };
-}
-
-impl Stored {
-    fn account(&self) -> Account<'_>
-        ensures { as_account result ≡ self.now }
+impl Lists {
+    // Both empty.
+    pub(crate) fn new() -> Lists
+        ensures readings { result.readings.items ≡ [] }
+        ensures writes { result.writes.items ≡ [] }
     {
-        Account {
-            interval: self.interval,
-            timestamp: self.timestamp,
-            readings: self.readings.as_slice(),
-            writes: self.writes.as_slice(),
-        }
-    }
-
-    // This account as a lawful one, if it is.
-    fn lawful(self) -> Option<LawfulStored>
-        ensures { result ≡ (if lawful self then Some self else None) }
-    {
-        if self.account().is_lawful() {
-            Some(LawfulStored { stored: self })
-        } else {
-            None
+        Lists {
+            readings: ArrayVec::new(),
+            writes: ArrayVec::new(),
         }
     }
 }
 
-// A lawful account with memory of its own.
+// A lawful account that was found in a book; its readings and writes are lent.
 #[derive(Drop)]
-pub(crate) struct LawfulStored {
-    stored: Stored,
+pub(crate) struct Found<'m> {
+    lawful: LawfulAccount<'m>,
 }
 
-impl Model for LawfulStored {
-    ghost use Rattle.std.specs.Prelude.{◌≡◌, true};
-    ghost use Rattle.snapshot.specs.Accounts.{Account, lawful};
+impl<'m> Model for Found<'m> {
+    ghost use Rattle.snapshot.specs.Accounts.{Account};
+    ghost use Rattle.book.specs.Format.{as_account};
 
     ghost Value = { Account };
 
-    ghost view = { λ s. s.stored };
-
-    ghost invariant = { λ s. lawful s.stored ≡ true };
+    ghost view = { λ f. as_account f.lawful.account };
 }
 
-impl LawfulStored {
-    pub(crate) fn account(&self) -> LawfulAccount<'_>
+impl<'m> Found<'m> {
+    pub(crate) fn account(&self) -> LawfulAccount<'m>
         ensures { as_account result.account ≡ self.now }
     {
-        LawfulAccount {
-            account: self.stored.account(),
-        }
+        self.lawful
     }
 }
 
@@ -142,8 +111,8 @@ pub fn read_account(
     ensures writes { writes.new ≡ overwritten (filled_writes (read_at book.now start (length readings.old) (length writes.old))) writes.old }
     ensures written { AcceptedOnly book.now start result readings.new writes.new }
 {
-    let stored = account_at(book, start)?;
-    let found = stored.account();
+    let mut lists = Lists::new();
+    let found = account_at(book, start, &mut lists)?.account();
     let account = found.account;
     if readings.len() < account.readings.len() || writes.len() < account.writes.len() {
         return Err(BookFault::new(Refusal::TooShort, start));
@@ -153,21 +122,28 @@ pub fn read_account(
     Ok(found.located(start))
 }
 
-// The account at this place of the book.
+// The account at this place of the book, its readings and writes in these lists.
 #[tactic(auto, using(crate::proofs::Reading::accepted_at))]
-pub(crate) fn account_at(book: &[u8], start: usize) -> Result<LawfulStored, BookFault>
+pub(crate) fn account_at<'m>(
+    book: &[u8],
+    start: usize,
+    lists: &'m mut Lists,
+) -> Result<Found<'m>, BookFault>
     ensures value { result ≡ faulted start (front_account (drop start book.now)) }
     ensures written { IfOk result (BeginsWithWritten (drop start book.now)) }
 {
-    front_account(from_place(book, start)).map_err(|refusal| BookFault::new(refusal, start))
+    front_account(from_place(book, start), lists).map_err(|refusal| BookFault::new(refusal, start))
 }
 
-// The account at the front of the bytes.
-fn front_account(bytes: &[u8]) -> Result<LawfulStored, Refusal>
+// The account at the front of the bytes, its readings and writes in these lists.
+fn front_account<'m>(bytes: &[u8], lists: &'m mut Lists) -> Result<Found<'m>, Refusal>
     ensures { result ≡ front_account bytes.now }
 {
     let counts = check_frame(bytes)?;
-    decode(bytes, counts).lawful().ok_or(Refusal::Unlawful)
+    let Some(lawful) = decode(bytes, counts, lists).lawful() else {
+        return Err(Refusal::Unlawful);
+    };
+    Ok(Found { lawful })
 }
 
 // The counts of the account at the front of the bytes; refused where the account is cut short, its mark or its last byte
@@ -197,22 +173,28 @@ fn check_frame(bytes: &[u8]) -> Result<Counts, Refusal>
     Ok(Counts { readings, writes })
 }
 
-// The account that the bytes tell, each field at its place.
-fn decode(bytes: &[u8], counts: Counts) -> Stored
+// The account that the bytes tell, each field at its place; its readings and writes are unpacked into these lists.
+fn decode<'m>(bytes: &[u8], counts: Counts, lists: &'m mut Lists) -> Account<'m>
     requires counts { counts ≡ counts_in bytes.now }
     requires readings { counts.readings ≤ chain_readings }
     requires writes { counts.writes ≤ write_keys }
     requires fits { size_of counts.readings counts.writes ≤ length bytes.now }
-    ensures { result ≡ account_from bytes.now }
+    ensures { as_account result ≡ account_from bytes.now }
 {
-    Stored {
+    unpack_all(&bytes[HEAD_SIZE..], counts.readings, &mut lists.readings);
+    unpack_all(
+        &bytes[writes_place(counts.readings)..],
+        counts.writes,
+        &mut lists.writes,
+    );
+    Account {
         interval: Interval {
             low: BigEndian::read_u64(&bytes[4..]),
             high: BigEndian::read_u64(&bytes[12..]),
         },
         timestamp: BigEndian::read_u64(&bytes[20..]),
-        readings: unpack_all(&bytes[HEAD_SIZE..], counts.readings),
-        writes: unpack_all(&bytes[writes_place(counts.readings)..], counts.writes),
+        readings: lists.readings.as_slice(),
+        writes: lists.writes.as_slice(),
     }
 }
 

@@ -12,11 +12,13 @@ returns c =
     let n = c.args.counts.readings in
     let m = c.args.counts.writes in
     let readings =
-    c.unpack_all.ensures
+    c.as_slice.ensures.value
+    ∙ c.unpack_all.ensures
     ∙ ap (records_from reading_from 22 n) (take_rest bs 28)
     ∙ ap (λ k. records_from reading_from 22 k.readings (drop 28 bs)) c.requires.counts in
     let writes =
-    c.unpack_all-2.ensures
+    c.as_slice-2.ensures.value
+    ∙ c.unpack_all-2.ensures
     ∙ ap (records_from write_from 5 m) (take_rest bs c.writes_place.result)
     ∙ ap (λ at. records_from write_from 5 m (drop at bs)) c.writes_place.ensures
     ∙ ap (λ k. records_from write_from 5 k.writes (drop (28 + 22 * k.readings) bs)) c.requires.counts in

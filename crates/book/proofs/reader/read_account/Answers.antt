@@ -13,8 +13,8 @@ returns c =
     let rs = c.args.readings.now in
     let ws = c.args.writes.now in
     let a = as_account c.account-found.result.account in
-    let found = rw (← c.account-found.ensures) at c.in_ok-stored.ensures.value in
-    let written = rw (← c.account-found.ensures) at c.in_ok-stored.ensures.written in
+    let found = rw (← c.account-found.ensures) at c.in_ok-account_at.ensures.value in
+    let written = rw (← c.account-found.ensures) at c.in_ok-account_at.ensures.written in
     let read : read_at book start (length rs) (length ws) ≡ Ok a = found_is_read start _ _ a _ found (omega arith) (omega arith) in
     record {
       value = (λ i. Ok (record { head = c.located.ensures.head i; end = c.located.ensures.end i }))
