@@ -15,7 +15,7 @@ use Rattle.book.specs.declared.output.Extent.TheVariants.{Whole, Front}
 use Rattle.book.specs.Books.{GainsFront, GainsListing, IsFrontOf, ListedBehind, ListsBook, listing_text, most_bytes}
 use Rattle.book.specs.Outputs.{AppendsFront}
 
-take_of_take : (n m : ℕ) (xs : List ℕ) → n ≤ m → take n (take m xs) ≡ take n xs
+pub take_of_take : (n m : ℕ) (xs : List ℕ) → n ≤ m → take n (take m xs) ≡ take n xs
 take_of_take zero m xs le = refl
 take_of_take (suc n) zero xs le = absurd (omega (arith, le))
 take_of_take (suc n) (suc m) [] le = refl
