@@ -5,7 +5,7 @@ ghost use Rattle.store.specs.Meaning.{fit_writes};
 use snapshot::Write;
 
 /// Writes that are fit, and the timestamp that they get.
-#[derive(Clone, Copy)]
+#[derive(Clone, Copy, PartialEq, Eq, Debug)]
 pub struct Update<'a> {
     /// The timestamp, 1 to 2^48 - 1.
     pub timestamp: u64,
