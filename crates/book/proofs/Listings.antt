@@ -1,13 +1,14 @@
 -- A book read so far, and one account more.
-use Rattle.std.proofs.Common.{◌≡◌, ℕ, ◌+◌, ◌*◌, ◌/◌, ◌<◌, ◌≤◌, true, List, [], ◌∷◌, ◌++◌, map, length, drop, sym, refl, ap, ◌∙◌, subst, arith}
+use Rattle.std.proofs.Common.{◌≡◌, ℕ, ◌+◌, ◌*◌, ◌/◌, ◌<◌, ◌≤◌, true, List, [], ◌∷◌, ◌++◌, map, length, get_or, take, drop, sym, refl, ap, ◌∙◌, subst, arith}
 use Rattle.std.proofs.ByRecursion.{All-push}
 use Rattle.std.proofs.lemmas.List.{append_assoc, flat_map_more, length-append, length-drop, length-map, map_push}
 use Rattle.std.specs.List.{flat_map, AllByRecursion}
 use Rattle.snapshot.specs.Accounts.{Account, head_of, lawful}
 use Rattle.snapshot.specs.declared.account.AccountHead.{AccountHead}
-use Rattle.book.specs.Books.{ReadBehind, IsAccountAt}
+use Rattle.book.specs.Books.{ReadBehind, IsAccountAt, head_line}
 use Rattle.book.specs.Format.{account_bytes, size_of}
 use Rattle.book.specs.declared.reader.AccountAt.{AccountAt}
+use Rattle.book.proofs.Packing.{joined_next}
 use Rattle.book.proofs.RoundTrip.{takes_its_size}
 
 -- the bytes before this place are those of lawful accounts with these heads
@@ -82,3 +83,13 @@ module _ {before after : List AccountHead} {book : List ℕ} {start : ℕ} (b : 
         next = at;
         stands = subst (λ n. IsAccountAt book n at) r.place next;
       }
+
+-- The text.
+
+-- one line more
+pub text_more : (heads : List AccountHead) (i : ℕ) (d : AccountHead) {old text line new : List ℕ} → i < length heads → old ≡ flat_map head_line (take i heads) → text ≡ line → line ≡ head_line (get_or heads i d) → new ≡ old ++ text → new ≡ flat_map head_line (take (i + 1) heads)
+text_more heads i d {old} lt sofar shown is pushed =
+    pushed
+    ∙ ap (λ bs. old ++ bs) (shown ∙ is)
+    ∙ ap (λ bs. bs ++ head_line (get_or heads i d)) sofar
+    ∙ sym (joined_next head_line heads i d lt)
