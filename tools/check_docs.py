@@ -18,7 +18,7 @@ import os
 import re
 import sys
 
-LEFT_OUT = {"docs/history/PORT.md", "docs/history/DESIGN-PASS.md"}
+LEFT_OUT = {"docs/history/PORT.md", "docs/history/DESIGN-PASS.md", "docs/LOOK-BACK.md"}
 
 # Words of Rust, of Rattle, of its standard library and of its kit.
 KIT = set(
