@@ -16,7 +16,7 @@ use std::process::ExitCode;
 
 const VERSION: &str = "1.0";
 
-// How many bytes of the input count.
+// How many bytes of the input count: as many as `list_book` reads, to which `lists` below holds this number.
 const MOST_BYTES: u64 = 65_536;
 
 // Is there a word behind the program's own name? That name is not looked at, and may be any bytes.
@@ -51,15 +51,16 @@ fn answer_arguments(rt: &HostRuntime) -> anyhow::Result<Option<ExitCode>> {
     Ok(Some(ExitCode::from(answer.exit_code() as u8)))
 }
 
-// Asks for one byte more. Where that cannot be read, nothing is known to follow.
+// Asks for one byte more, and answers whether it was there. Where it cannot be read the answer is false too.
 fn goes_on<R: Read + Drop>(rest: R) -> bool
     ensures { result ≡ true → IfSome (R.Read.remaining rest) (λ bytes. 0 < length bytes) }
 {
     matches!(rest.bytes().next(), Some(Ok(_)))
 }
 
-// Writes the listing of the first 65,536 bytes of the input, and answers whether more follow. It is written before a byte more
-// is asked for, and the answer is no error of its own.
+// Writes the listing of the first 65,536 bytes of the input, and answers whether more were found to follow. It is written before
+// a byte more is asked for, and the answer is no error of its own. The answer is tested and not proved: of a reader that was read
+// through `Take` nothing is known.
 fn list_front<R: Read + Drop, W: Write>(heap: Global, input: R, output: &mut W) -> io::Result<bool>
     ensures lists { OnOk result (IfSome (R.Read.remaining input) (λ rest. GainsListing (take most_bytes rest) (W.contents output.old) (W.contents output.new))) }
     ensures front { OnErr result (IfSome (R.Read.remaining input) (λ rest. GainsFront (take most_bytes rest) (W.contents output.old) (W.contents output.new))) }
